@@ -1,0 +1,115 @@
+-- A call refuses exactly by the first of its tests that refuses; what a promise permits is one. Assumes nothing.
+use mathlib.Core.Bool.{Bool, true, false, cond}
+use mathlib.Core.List.{List, [], _∷_, _++_}
+use mathlib.Core.Logic.{_↔_}
+use mathlib.Core.Path.{_≡_, refl, sym, ap, _∙_}
+use Prim.Native.Nat.{ℕ, zero, suc, _≤_, _<_, zero-le, suc-le-suc}
+use native.Mathlib.Nat.{le-of-suc-le-suc, not-suc-le-zero}
+use native.Mathlib.Omega.{arith}
+use lib.Dec.{ltb}
+use lib.ListN.{length, getD}
+use borrow.Author.Tests.{ltb-true, ltb-false, lt-ltb, le-ltb}
+use Rattle.basis.specs.declared.Answer.{Answer}
+use Rattle.basis.specs.declared.Verdict.{Verdict}
+use Rattle.basis.specs.declared.Verdict.the-variants.{Passes, Refuses}
+use Rattle.basis.specs.First.{first, NoneBelow}
+use Rattle.basis.specs.Answers.{refuseIf, refuseAtFirst, firstRefusal, Outcome, Gives, settled}
+use Rattle.basis.proofs.First.{first-≤, first-hits, first-misses, first-is, first-end}
+
+-- test i of a call refuses with this number and place, and each test before it passes
+pub record FirstToRefuse (tests : List Verdict) (number place i : ℕ) : Type 0 where
+  pub within : i < length tests
+  pub fires : getD tests i Passes ≡ Refuses number place
+  pub earlier : (k : ℕ) → k < i → getD tests k Passes ≡ Passes
+
+never : {n p : ℕ} → Passes ≡ Refuses n p → ⊥
+never e = let z : _≡_ {A = ℕ} 0 1 = cc in omega arith
+
+pub refused-by : (tests : List Verdict) (number place i : ℕ) → FirstToRefuse tests number place i → firstRefusal tests ≡ Refuses number place
+unfolding firstRefusal
+refused-by [] number place i f = absurd (not-suc-le-zero (f .within))
+refused-by (Passes ∷ tests) number place zero f = absurd (never (f .fires))
+refused-by (Passes ∷ tests) number place (suc i) f =
+    refused-by tests number place i
+    (record { within = le-of-suc-le-suc (f .within); fires = f .fires; earlier = λ k l. f .earlier (suc k) (suc-le-suc l) })
+refused-by (Refuses n p ∷ tests) number place zero f = f .fires
+refused-by (Refuses n p ∷ tests) number place (suc i) f = absurd (never (sym (f .earlier 0 (suc-le-suc zero-le))))
+
+behind : {tests : List Verdict} {number place i : ℕ} → FirstToRefuse tests number place i → FirstToRefuse (Passes ∷ tests) number place (suc i)
+behind {tests} {i = i} f = record { within = suc-le-suc (f .within); fires = f .fires; earlier = passed }
+  where
+    passed : (k : ℕ) → k < suc i → getD (Passes ∷ tests) k Passes ≡ Passes
+    passed zero l = refl
+    passed (suc k) l = f .earlier k (le-of-suc-le-suc l)
+
+pub refused-only : (tests : List Verdict) (number place : ℕ) → firstRefusal tests ≡ Refuses number place → (i : ℕ) × FirstToRefuse tests number place i
+unfolding firstRefusal
+refused-only [] number place e = absurd (never e)
+refused-only (Passes ∷ tests) number place e = let r = refused-only tests number place e in (suc (r .0), behind (r .1))
+refused-only (Refuses n p ∷ tests) number place e =
+    (0, record { within = suc-le-suc zero-le; fires = e; earlier = λ k l. absurd (not-suc-le-zero l) })
+
+-- the first refusal of a list of tests is answered exactly when it fires and no earlier one does
+pub refused-exactly : (tests : List Verdict) (number place : ℕ)
+    → firstRefusal tests ≡ Refuses number place ↔ ((i : ℕ) × FirstToRefuse tests number place i)
+refused-exactly tests number place = (refused-only tests number place, λ r. refused-by tests number place (r .0) (r .1))
+
+-- tests behind tests: the later ones are heard where the earlier ones pass
+pub passed-then : (ts us : List Verdict) → firstRefusal ts ≡ Passes → firstRefusal (ts ++ us) ≡ firstRefusal us
+unfolding firstRefusal
+passed-then [] us e = refl
+passed-then (Passes ∷ ts) us e = passed-then ts us e
+passed-then (Refuses n p ∷ ts) us e = absurd (never (sym e))
+
+pub refused-then : (ts us : List Verdict) {n p : ℕ} → firstRefusal ts ≡ Refuses n p → firstRefusal (ts ++ us) ≡ Refuses n p
+unfolding firstRefusal
+refused-then [] us e = absurd (never e)
+refused-then (Passes ∷ ts) us e = refused-then ts us e
+refused-then (Refuses n p ∷ ts) us e = e
+
+-- a call accepts exactly when each of its tests passes
+pub passed-exactly : (tests : List Verdict) → firstRefusal tests ≡ Passes ↔ ((i : ℕ) → getD tests i Passes ≡ Passes)
+unfolding firstRefusal
+passed-exactly tests = (each tests, all tests)
+  where
+    each : (ts : List Verdict) → firstRefusal ts ≡ Passes → (i : ℕ) → getD ts i Passes ≡ Passes
+    each [] e i = refl
+    each (Passes ∷ ts) e zero = refl
+    each (Passes ∷ ts) e (suc i) = each ts e i
+    each (Refuses n p ∷ ts) e i = absurd (never (sym e))
+
+    all : (ts : List Verdict) → ((i : ℕ) → getD ts i Passes ≡ Passes) → firstRefusal ts ≡ Passes
+    all [] h = refl
+    all (Passes ∷ ts) h = all ts (λ i. h (suc i))
+    all (Refuses n p ∷ ts) h = absurd (never (sym (h 0)))
+
+-- a test of each index below a count refuses exactly at the first that is wrong
+pub refused-at-first : (number : ℕ) (wrong : ℕ → Bool) (count i : ℕ)
+    → refuseAtFirst number wrong count ≡ Refuses number i ↔ ((i < count) × (wrong i ≡ true) × NoneBelow wrong i)
+unfolding refuseAtFirst
+refused-at-first number wrong count i = (λ e. by (ltb (first wrong count) count) refl e, λ h. at (h .0) (h .1) (h .2))
+  where
+    by : (b : Bool) → ltb (first wrong count) count ≡ b → refuseIf b number (first wrong count) ≡ Refuses number i
+        → (i < count) × (wrong i ≡ true) × NoneBelow wrong i
+    by true t e =
+        let f : first wrong count ≡ i = cc in
+        let l : first wrong count < count = ltb-true (first wrong count) count t in
+        (rw f at l, rw f at (first-hits wrong count l), rw f at (first-misses wrong count))
+    by false t e = absurd (never e)
+
+    at : i < count → wrong i ≡ true → NoneBelow wrong i → refuseAtFirst number wrong count ≡ Refuses number i
+    at l hit none = rw (first-is wrong count i l none hit, lt-ltb i count l)
+
+pub passed-at-all : (number : ℕ) (wrong : ℕ → Bool) (count : ℕ) → refuseAtFirst number wrong count ≡ Passes ↔ NoneBelow wrong count
+unfolding refuseAtFirst
+passed-at-all number wrong count = (λ e. by (ltb (first wrong count) count) refl e, λ h. rw (first-end wrong count h, le-ltb count count (omega arith)))
+  where
+    by : (b : Bool) → ltb (first wrong count) count ≡ b → refuseIf b number (first wrong count) ≡ Passes → NoneBelow wrong count
+    by true t e = absurd (never (sym e))
+    by false t e =
+        let f : first wrong count ≡ count = omega (arith, ltb-false (first wrong count) count t, first-≤ wrong count) in
+        rw f at (first-misses wrong count)
+
+-- two outcomes that a promise permits are one
+pub coincide : {o : Outcome} {a a′ : Answer} {bs bs′ : List ℕ} → Gives o a bs → Gives o a′ bs′ → (a ≡ a′) × (bs ≡ bs′)
+coincide g g′ = (g .answers ∙ sym (g′ .answers), g .leaves ∙ sym (g′ .leaves))

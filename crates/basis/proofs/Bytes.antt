@@ -1,0 +1,140 @@
+-- The laws of numbers in bytes and of lists written over. Assumes nothing.
+use mathlib.Core.Path.{_≡_, refl, sym, ap, _∙_}
+use mathlib.Core.List.{List, [], _∷_, _++_, append-assoc, append-nil}
+use Prim.Native.Nat.{ℕ, zero, suc, _+_, _*_, _-_, _/_, _%_, _^_, _≤_, _<_, zero-le, suc-le-suc}
+use native.Mathlib.Nat.{add-assoc, add-zero, zero-add, suc-add, pow-suc, not-suc-le-zero, le-of-suc-le-suc}
+use native.Mathlib.Omega.{arith}
+use lib.ListN.{length, take, drop, getD, length-append, length-take, length-drop, take-append-drop}
+use lib.Seq.{take-take, take-nil, take-append-le, drop-append-le, take-at, drop-at, drop-drop, length-take-le}
+use Rattle.basis.specs.Bytes.{bytesOf, numberOf, numberAt, packed, Bytes, splice, Written}
+use Rattle.basis.specs.Lists.{sum}
+
+pub length-bytesOf : (k v : ℕ) → length (bytesOf k v) ≡ k
+unfolding bytesOf
+length-bytesOf zero v = refl
+length-bytesOf (suc k) v = ap suc (length-bytesOf k (v / 256))
+
+pub bytesOf-bytes : (k v : ℕ) → Bytes (bytesOf k v)
+unfolding bytesOf
+bytesOf-bytes zero v i = omega arith
+bytesOf-bytes (suc k) v zero = omega arith
+bytesOf-bytes (suc k) v (suc i) = bytesOf-bytes k (v / 256) i
+
+-- a number that fits its width is read as it was written
+pub numberOf-bytesOf : (k v : ℕ) → v < 256 ^ k → numberOf (bytesOf k v) ≡ v
+unfolding bytesOf numberOf
+numberOf-bytesOf zero v h = omega arith
+numberOf-bytesOf (suc k) v h =
+    let l : v / 256 < 256 ^ k = omega (arith, rw (pow-suc 256 k) at h) in
+    rw (numberOf-bytesOf k (v / 256) l) (omega arith)
+
+-- bytes are written as they were read
+pub bytesOf-numberOf : (bs : List ℕ) → Bytes bs → bytesOf (length bs) (numberOf bs) ≡ bs
+unfolding bytesOf numberOf
+bytesOf-numberOf [] h = refl
+bytesOf-numberOf (b ∷ bs) h =
+    let l : b < 256 = h 0 in
+    let m : (b + 256 * numberOf bs) % 256 ≡ b = omega arith in
+    let d : (b + 256 * numberOf bs) / 256 ≡ numberOf bs = omega arith in
+    rw (m, d, bytesOf-numberOf bs (λ i. h (suc i)))
+
+pub numberOf-fits : (bs : List ℕ) → Bytes bs → numberOf bs < 256 ^ length bs
+unfolding numberOf
+numberOf-fits [] h = omega arith
+numberOf-fits (b ∷ bs) h =
+    let l : b < 256 = h 0 in
+    let m : numberOf bs < 256 ^ length bs = numberOf-fits bs (λ i. h (suc i)) in
+    rw (pow-suc 256 (length bs)) (omega arith)
+
+pub splice-none : (xs : List ℕ) (at : ℕ) → splice xs at [] ≡ xs
+unfolding splice
+splice-none xs at = simp (append-nil, add-zero, take-append-drop)
+
+pub length-splice : (xs : List ℕ) (at : ℕ) (ys : List ℕ) → at + length ys ≤ length xs → length (splice xs at ys) ≡ length xs
+unfolding splice
+length-splice xs at ys h = simp (length-append, length-take, length-drop) (omega arith)
+
+length-head : (xs : List ℕ) (at : ℕ) (ys : List ℕ) → at ≤ length xs → length (take at xs ++ ys) ≡ at + length ys
+length-head xs at ys h = simp (length-append, length-take-le)
+
+-- adjacent writes are one
+pub splice-splice : (xs : List ℕ) (at : ℕ) (ys zs : List ℕ) → at ≤ length xs
+    → splice (splice xs at ys) (at + length ys) zs ≡ splice xs at (ys ++ zs)
+unfolding splice
+splice-splice xs at ys zs h =
+    let e : length (take at xs ++ ys) ≡ at + length ys = length-head xs at ys h in
+    rw (take-at (take at xs ++ ys), ← drop-drop (length zs) (at + length ys), drop-at (take at xs ++ ys), drop-drop, length-append, add-assoc)
+    (simp append-assoc)
+
+pub length-written : {xs ys zs : List ℕ} {at : ℕ} → Written xs at ys zs → length zs ≡ length xs
+length-written {xs} {ys} {zs} {at} w = ap length (w .is) ∙ length-splice xs at ys (w .fits)
+
+pub written-then : {xs ys zs us vs : List ℕ} {at n : ℕ} → Written xs at ys zs → Written zs n us vs → n ≡ at + length ys → Written xs at (ys ++ us) vs
+written-then {xs} {ys} {us = us} {at = at} w v e =
+    let f : at ≤ length xs = omega (arith, w .fits) in
+    record {
+      fits = rw length-append (omega (arith, v .fits, length-written w));
+      is = v .is ∙ rw (w .is, e) (splice-splice xs at ys us f);
+    }
+
+-- a part that begins at a place is the end of what goes up to its own end
+part-of-front : (p k : ℕ) (l : List ℕ) → take k (drop p l) ≡ drop p (take (p + k) l)
+part-of-front zero k l = rw zero-add
+part-of-front (suc p) k [] = rw (suc-add, take-nil {A = ℕ} k)
+part-of-front (suc p) k (x ∷ l) = rw suc-add (part-of-front p k l)
+
+-- reading before, inside and behind what was written
+module _ {xs ys zs : List ℕ} {at : ℕ} (w : Written xs at ys zs) where
+  front-kept : take at zs ≡ take at xs
+  unfolding splice
+  front-kept =
+      let h : length (take at xs) ≡ at = length-take-le at xs (omega (arith, w .fits)) in
+      rw (w .is, append-assoc) (take-at (take at xs) (ys ++ drop (at + length ys) xs) at h)
+
+  back-kept : drop (at + length ys) zs ≡ drop (at + length ys) xs
+  unfolding splice
+  back-kept =
+      rw (w .is) (drop-at (take at xs ++ ys) (drop (at + length ys) xs) (at + length ys) (length-head xs at ys (omega (arith, w .fits))))
+
+  pub read-before : (p k : ℕ) → p + k ≤ at → take k (drop p zs) ≡ take k (drop p xs)
+  read-before p k h = rw (part-of-front p k zs, part-of-front p k xs, ← take-take (p + k) at zs, ← take-take (p + k) at xs, front-kept)
+
+  pub read-inside : (p k : ℕ) → p + k ≤ length ys → take k (drop (at + p) zs) ≡ take k (drop p ys)
+  unfolding splice
+  read-inside p k h =
+      let f : length (take at xs) ≡ at = length-take-le at xs (omega (arith, w .fits)) in
+      let g : p ≤ length ys = omega arith in
+      let d : k ≤ length (drop p ys) = rw length-drop (omega arith) in
+      rw (w .is, append-assoc, ← drop-drop p at, drop-at (take at xs), drop-append-le p ys, take-append-le k (drop p ys))
+
+  pub read-behind : (p : ℕ) → at + length ys ≤ p → drop p zs ≡ drop p xs
+  read-behind p h =
+      let q : at + length ys + (p - (at + length ys)) ≡ p = omega arith in
+      rw (← q, ← drop-drop (p - (at + length ys)) (at + length ys) zs, ← drop-drop (p - (at + length ys)) (at + length ys) xs, back-kept)
+
+-- numbers that are packed are read at the place that the widths before them make
+pub record Fits (ws ns : List ℕ) : Type 0 where
+  pub as-many : length ns ≡ length ws
+  pub each : (i : ℕ) → i < length ws → getD ns i 0 < 256 ^ getD ws i 0
+
+pub length-packed : (ws ns : List ℕ) → length ns ≡ length ws → length (packed ws ns) ≡ sum ws
+unfolding packed sum
+length-packed [] ns e = refl
+length-packed (w ∷ ws) [] e = omega arith
+length-packed (w ∷ ws) (n ∷ ns) e =
+    let t : length ns ≡ length ws = omega arith in
+    rw (length-append, length-bytesOf, length-packed ws ns t)
+
+pub numberAt-packed : (ws ns rest : List ℕ) → Fits ws ns → (i : ℕ) → i < length ws
+    → numberAt (getD ws i 0) (packed ws ns ++ rest) (sum (take i ws)) ≡ getD ns i 0
+unfolding packed sum numberAt
+numberAt-packed [] ns rest f i h = omega arith
+numberAt-packed (w ∷ ws) [] rest f i h = let e : 0 ≡ suc (length ws) = f .as-many in omega arith
+numberAt-packed (w ∷ ws) (n ∷ ns) rest f zero h =
+    let l : length (bytesOf w n) ≡ w = length-bytesOf w n in
+    rw (append-assoc, take-at (bytesOf w n)) (numberOf-bytesOf w n (f .each 0 (omega arith)))
+numberAt-packed (w ∷ ws) (n ∷ ns) rest f (suc i) h =
+    let l : length (bytesOf w n) ≡ w = length-bytesOf w n in
+    let t : length ns ≡ length ws = let e : suc (length ns) ≡ suc (length ws) = f .as-many in omega arith in
+    rw (append-assoc, ← drop-drop (sum (take i ws)) w, drop-at (bytesOf w n))
+    (numberAt-packed ws ns rest (record { as-many = t; each = λ j q. f .each (suc j) (suc-le-suc q) }) i (le-of-suc-le-suc h))

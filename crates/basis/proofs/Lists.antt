@@ -1,0 +1,49 @@
+-- The laws of sums, of counting up and of order by a key. Assumes nothing.
+use mathlib.Core.Bool.{Bool, true, false, cond}
+use mathlib.Core.List.{List, [], _∷_, _++_, map, Perm, Perm·refl, Perm·cons, Perm·swap, Perm·trans}
+use mathlib.Core.Path.{_≡_, refl, ap, _∙_}
+use Prim.Native.Nat.{ℕ, zero, suc, _+_}
+use native.Mathlib.Nat.{add-assoc, zero-add}
+use lib.Dec.{leb}
+use lib.ListN.{length}
+use Rattle.basis.specs.Lists.{sum, countUp, insertBy, sortedBy}
+
+pub sum-append : (ms ns : List ℕ) → sum (ms ++ ns) ≡ sum ms + sum ns
+unfolding sum
+sum-append [] ns = rw zero-add
+sum-append (m ∷ ms) ns = rw (sum-append ms ns, add-assoc)
+
+pub length-countUp : (i k : ℕ) → length (countUp i k) ≡ k
+unfolding countUp
+length-countUp i zero = refl
+length-countUp i (suc k) = ap suc (length-countUp (i + 1) k)
+
+module _ {A : Type 0} (key : A → ℕ) where
+  -- order loses nothing and makes nothing: the same elements, each as often
+  pub insertBy-perm : (x : A) (xs : List A) → Perm (insertBy key x xs) (x ∷ xs)
+  unfolding insertBy
+  insertBy-perm x [] = Perm·refl (x ∷ [])
+  insertBy-perm x (y ∷ ys) = by (leb (key x) (key y)) (insertBy-perm x ys)
+    where
+      by : (b : Bool) → Perm (insertBy key x ys) (x ∷ ys) → Perm (cond b (x ∷ y ∷ ys) (y ∷ insertBy key x ys)) (x ∷ y ∷ ys)
+      by true h = Perm·refl (x ∷ y ∷ ys)
+      by false h = Perm·trans (Perm·cons y h) (Perm·swap x y ys)
+
+  pub sortedBy-perm : (xs : List A) → Perm (sortedBy key xs) xs
+  unfolding sortedBy
+  sortedBy-perm [] = Perm·refl []
+  sortedBy-perm (x ∷ xs) = Perm·trans (insertBy-perm x (sortedBy key xs)) (Perm·cons x (sortedBy-perm xs))
+
+  length-insertBy : (x : A) (xs : List A) → length (insertBy key x xs) ≡ suc (length xs)
+  unfolding insertBy
+  length-insertBy x [] = refl
+  length-insertBy x (y ∷ ys) = by (leb (key x) (key y)) (length-insertBy x ys)
+    where
+      by : (b : Bool) → length (insertBy key x ys) ≡ suc (length ys) → length (cond b (x ∷ y ∷ ys) (y ∷ insertBy key x ys)) ≡ suc (suc (length ys))
+      by true h = refl
+      by false h = ap suc h
+
+  pub length-sortedBy : (xs : List A) → length (sortedBy key xs) ≡ length xs
+  unfolding sortedBy
+  length-sortedBy [] = refl
+  length-sortedBy (x ∷ xs) = length-insertBy x (sortedBy key xs) ∙ ap suc (length-sortedBy xs)

@@ -1,0 +1,4 @@
+pub mod Bytes
+pub mod Lists
+pub mod First
+pub mod Answers

@@ -1,0 +1,157 @@
+-- Document 01, "Refusal numbers": each call as its tests in order, and what it leaves where it accepts. Assumes nothing.
+use mathlib.Core.Bool.{Bool, true, false, cond, not, _&&_, _||_}
+use mathlib.Core.List.{List, [], _∷_, _++_, map}
+use Prim.Native.Nat.{ℕ, _+_}
+use lib.Dec.{eqb, ltb}
+use lib.ListN.{length, getD}
+use Rattle.basis.specs.declared.Answer.{Answer}
+use Rattle.basis.specs.declared.Verdict.{Verdict}
+use Rattle.basis.specs.Lists.{any, stands, joined, without}
+use Rattle.basis.specs.First.{first}
+use Rattle.basis.specs.Answers.{refuseIf, refuseAtFirst, firstRefusal, passes, answer, Outcome, settled}
+use Rattle.meaning.specs.declared.Decoded.{Decoded}
+use Rattle.meaning.specs.declared.Decoded.the-variants.{Good, Bad}
+use Rattle.meaning.specs.declared.Part.{Part}
+use Rattle.meaning.specs.declared.Found.{Found}
+use Rattle.meaning.specs.Methods.{isBad}
+use Rattle.meaning.specs.Masses.{belowZero, masses, equivalent, limit}
+use Rattle.meaning.specs.Register.{Source, yearOf, sourceCount, mostSources, sourcesOf, registerTests, decodedLines, sourceEntry, numberIn, nameLengthIn, namePlace}
+use Rattle.meaning.specs.Report.{Entry, entryOf, inOrder, reportBytes, reportYear, entriesOf, entryCount, wellFormed}
+use Rattle.meaning.specs.Text.{reportText}
+
+-- "8 | report buffer too short | length needed"
+abbrev pub roomTest : List ℕ → List ℕ → Verdict
+roomTest made buffer = refuseIf (ltb (length buffer) (length made)) 8 (length made)
+
+-- a call that writes what it makes to the front of a lent buffer, once all its tests, and that of the room, have passed
+unfoldable pub written : List Verdict → List ℕ → List ℕ → Outcome
+written tests made buffer = settled (firstRefusal (tests ++ (roomTest made buffer ∷ []))) made buffer
+
+-- "5 | a line breaks its ranges or is wrong for its method | first such line's index", over the lines of all sources
+unfoldable pub badLine : List Decoded → ℕ → Bool
+badLine ls j = isBad (getD ls j Bad)
+
+unfoldable pub lineTest : List Source → Verdict
+lineTest ss =
+    let ls = joined (map decodedLines ss) in
+    refuseAtFirst 5 (badLine ls) (length ls)
+
+-- what a source is refused for: "6 | CO2 sum below zero"; "7 | equivalent above 10^15"; 0 where it is not
+unfoldable pub massFault : Source → ℕ
+massFault s =
+    let ls = decodedLines s in
+    cond (belowZero ls) 6 (cond (ltb limit (equivalent (masses ls))) 7 0)
+
+-- "then 6 and 7 source by source in table order", place the "source index"
+unfoldable pub faultAt : List ℕ → ℕ → Bool
+faultAt faults i = not (eqb (getD faults i 0) 0)
+
+unfoldable pub massTest : List Source → Verdict
+massTest ss =
+    let faults = map massFault ss in
+    let i = first (faultAt faults) (length faults) in
+    refuseIf (ltb i (length faults)) (getD faults i 0) i
+
+-- the entries of a register's report: one for each source
+unfoldable pub entriesFor : List Source → List Entry
+entriesFor ss = inOrder (map entryOf ss)
+
+-- "Calculation tests 1, 2 by field, 3 over all sources, 4 over all, 5 over all lines, then 6 and 7 .., then 8"
+unfoldable pub calculated : List ℕ → List ℕ → Outcome
+calculated register report =
+    let ss = sourcesOf register in
+    written (registerTests register ++ (lineTest ss ∷ massTest ss ∷ [])) (reportBytes (yearOf register) (entriesFor ss)) report
+
+-- "9 | a report is not well-formed | 1 or 2, which one; 1 if only one is lent"
+abbrev pub formTest : List ℕ → ℕ → Verdict
+formTest report which = refuseIf (not (wellFormed report)) 9 which
+
+-- "10 | years differ | 0"
+abbrev pub yearTest : List ℕ → List ℕ → Verdict
+yearTest one other = refuseIf (not (eqb (reportYear one) (reportYear other))) 10 0
+
+-- "11 | a number stands in both reports | the smallest such": the first of the one, which ascends, that stands in the other
+unfoldable pub sharedAt : List ℕ → List ℕ → ℕ → Bool
+sharedAt ns ms i = stands (getD ns i 0) ms
+
+unfoldable pub sharedTest : List ℕ → List ℕ → Verdict
+sharedTest one other =
+    let ns = map (λ e. e .number) (entriesOf one) in
+    let ms = map (λ e. e .number) (entriesOf other) in
+    let i = first (sharedAt ns ms) (length ns) in
+    refuseIf (ltb i (length ns)) 11 (getD ns i 0)
+
+-- "12 | combined count above 512 | that count"
+abbrev pub countTest : List ℕ → List ℕ → Verdict
+countTest one other = refuseIf (ltb mostSources (entryCount one + entryCount other)) 12 (entryCount one + entryCount other)
+
+-- "all entries of both"
+unfoldable pub bothEntries : List ℕ → List ℕ → List Entry
+bothEntries one other = inOrder (entriesOf one ++ entriesOf other)
+
+-- "Combining: 9 for the first, 9 for the second, 10, 11, 12, 8"; "Combining writes the well-formed report of all entries of both"
+unfoldable pub combined : List ℕ → List ℕ → List ℕ → Outcome
+combined one other report =
+    written
+    (formTest one 1 ∷ formTest other 2 ∷ yearTest one other ∷ sharedTest one other ∷ countTest one other ∷ [])
+    (reportBytes (reportYear one) (bothEntries one other))
+    report
+
+-- an entry has a number
+abbrev pub numbered : ℕ → Entry → Bool
+numbered n e = eqb (e .number) n
+
+-- "13 | number to remove is absent | the number"
+abbrev pub absentTest : List ℕ → ℕ → Verdict
+absentTest report number = refuseIf (not (any (numbered number) (entriesOf report))) 13 number
+
+-- "Removal: 9, 13, 8"; "Removal writes the report without that entry"
+unfoldable pub removed : List ℕ → ℕ → List ℕ → Outcome
+removed report number result =
+    written
+    (formTest report 1 ∷ absentTest report number ∷ [])
+    (reportBytes (reportYear report) (without (numbered number) (entriesOf report)))
+    result
+
+-- "The report check has only 9, place 1"; the length is that of the report judged
+unfoldable pub checked : List ℕ → Answer
+checked report = answer (formTest report 1) (length report)
+
+-- the text of a report: 9 with place 1, then 8
+unfoldable pub text : List ℕ → List ℕ → Outcome
+text report buffer = written (formTest report 1 ∷ []) (reportText (reportYear report) (entriesOf report)) buffer
+
+-- Names. Whether the tests 1 to 4 accept a register, and at which entry a number stands
+unfoldable pub accepted : List ℕ → Bool
+accepted register = passes (firstRefusal (registerTests register))
+
+unfoldable pub hasNumber : List ℕ → ℕ → ℕ → Bool
+hasNumber register number i = eqb (numberIn (sourceEntry register i)) number
+
+unfoldable pub indexOf : List ℕ → ℕ → ℕ
+indexOf register number = first (hasNumber register number) (sourceCount register)
+
+unfoldable pub holds : List ℕ → ℕ → Bool
+holds register number = ltb (indexOf register number) (sourceCount register)
+
+-- the name of entry i, where it stands
+unfoldable pub nameAt : List ℕ → ℕ → Part
+nameAt register i = record { offset = namePlace register i; length = nameLengthIn (sourceEntry register i) }
+
+-- "The name found for a number is the part of the lent register where it stands"; "the empty part at the front .. where 1 to 4 refuse .., where
+-- the number is absent"
+unfoldable pub found : List ℕ → ℕ → Part
+found register number =
+    cond (accepted register && holds register number) (nameAt register (indexOf register number)) (record { offset = 0; length = 0 })
+
+abbrev pub inRegister : ℕ → Part → Found
+inRegister which p = record { which = which; offset = p .offset; length = p .length }
+
+-- "the name is a part of whichever register holds the number"; "the empty part at the front of the (first) register where 1 to 4 refuse any
+-- register given, where the number is absent, or where it stands in both registers"
+unfoldable pub foundOfTwo : List ℕ → List ℕ → ℕ → Found
+foundOfTwo plant contractor number =
+    let both = accepted plant && accepted contractor in
+    cond (both && holds plant number && not (holds contractor number)) (inRegister 1 (found plant number))
+    (cond (both && not (holds plant number) && holds contractor number) (inRegister 2 (found contractor number))
+    (record { which = 1; offset = 0; length = 0 }))

@@ -1,0 +1,106 @@
+-- Cases beside the starred sums: document 01's own text of a report, and each number of its table with its place. Assumes nothing.
+use mathlib.Core.List.{List, [], _∷_, _++_, map}
+use mathlib.Core.Path.{_≡_}
+use Prim.Native.Nat.{ℕ}
+use lib.ListN.{replicate, take}
+use Rattle.basis.specs.declared.Answer.{Answer}
+use Rattle.basis.specs.Bytes.{bytesOf, ascii, splice}
+use Rattle.basis.specs.Answers.{Outcome}
+use Rattle.meaning.specs.declared.RawLine.{RawLine}
+use Rattle.meaning.specs.declared.Part.{Part}
+use Rattle.meaning.specs.declared.Found.{Found}
+use Rattle.meaning.specs.Register.{Source, encode}
+use Rattle.meaning.specs.Calls.{calculated, combined, removed, checked, text, found, foundOfTwo}
+use Rattle.meaning.specs.Starred.{Result, gives, calculates, line, case}
+
+-- "sources 8 and 7 in that order, equal names, each with the first case's line"
+abbrev pub boiler : ℕ → Source
+boiler number = record { number = number; method = 1; parameter = 0; name = ascii "Boiler DE-25"; lines = line 1 1 3 1000000 800000 10000 ∷ [] }
+
+unfoldable pub twins : List ℕ
+twins = encode 2023 (boiler 8 ∷ boiler 7 ∷ [])
+
+-- what a call leaves at the front of a buffer of so many zeros, where it accepts with that length
+unfoldable pub made : ℕ → (List ℕ → Outcome) → List ℕ
+made room call = let o = call (replicate room 0) in take (o .answer .length) (o .left)
+
+unfoldable pub reportOfSources : List Source → List ℕ
+reportOfSources ss = made 200 (calculated (encode 2023 ss))
+
+-- an answer, and the number and place that document 01's table has for it
+pub record Row : Type 0 where
+  pub answer : Answer
+  pub number : ℕ
+  pub place : ℕ
+
+abbrev pub row : Answer → ℕ → ℕ → Row
+row answer number place = record { answer = answer; number = number; place = place }
+
+-- calculation of the twins' register with bytes written over it at a place. Its entries stand at 32 and 48, its lines at 64 and 84, its names
+-- at 104 and 116, and it ends at 128.
+unfoldable pub damaged : ℕ → List ℕ → Answer
+damaged at bytes = calculated (splice twins at bytes) (replicate 136 0) .answer
+
+unfoldable pub combining : List ℕ → List ℕ → ℕ → Answer
+combining one other room = combined one other (replicate room 0) .answer
+
+unfoldable pub removing : ℕ → ℕ → Answer
+removing number room = removed (reportOfSources (boiler 8 ∷ boiler 7 ∷ [])) number (replicate room 0) .answer
+
+abbrev pub rows : List Row
+rows =
+    row (calculated (take 31 twins) [] .answer) 1 0
+    -- the header: tag, layout, year, counts above their limits, offsets
+    ∷ row (damaged 3 (ascii "P")) 2 0
+    ∷ row (damaged 4 (2 ∷ [])) 2 4
+    ∷ row (damaged 6 (bytesOf 2 1989)) 2 6
+    ∷ row (damaged 8 (bytesOf 2 513)) 2 8
+    ∷ row (damaged 10 (bytesOf 2 1025)) 2 10
+    ∷ row (damaged 12 (bytesOf 4 16385)) 2 12
+    ∷ row (damaged 16 (33 ∷ [])) 2 16
+    -- one source, one line, one name byte too many; a byte more than is stated
+    ∷ row (damaged 8 (3 ∷ [])) 2 20
+    ∷ row (damaged 10 (3 ∷ [])) 2 24
+    ∷ row (damaged 12 (25 ∷ [])) 2 28
+    ∷ row (damaged 128 (0 ∷ [])) 2 28
+    -- number zero; method 4 with parameter 0; no line; a first line that is not the next
+    ∷ row (damaged 48 (0 ∷ [])) 3 1
+    ∷ row (damaged 36 (4 ∷ [])) 3 0
+    ∷ row (damaged 38 (0 ∷ [])) 3 0
+    ∷ row (damaged 56 (2 ∷ [])) 3 1
+    -- no name; a name that runs past; a bad name byte; a name byte left over
+    ∷ row (damaged 42 (0 ∷ [])) 3 0
+    ∷ row (damaged 58 (13 ∷ [])) 3 1
+    ∷ row (damaged 120 (127 ∷ [])) 3 1
+    ∷ row (damaged 58 (11 ∷ [])) 3 2
+    -- equal numbers; a unit that is none; a buffer that is a byte short
+    ∷ row (damaged 48 (8 ∷ [])) 4 1
+    ∷ row (damaged 85 (5 ∷ [])) 5 1
+    ∷ row (calculated twins (replicate 135 0) .answer) 8 136
+    -- reports that are none; other years; a number in both; a buffer that is a byte short
+    ∷ row (checked []) 9 1
+    ∷ row (combining [] [] 56) 9 1
+    ∷ row (combining (reportOfSources []) [] 56) 9 2
+    ∷ row (combining (reportOfSources []) (made 56 (calculated (encode 2024 []))) 56) 10 0
+    ∷ row (combining (reportOfSources (boiler 8 ∷ [])) (reportOfSources (boiler 9 ∷ boiler 8 ∷ [])) 136) 11 8
+    ∷ row (combining (reportOfSources (boiler 8 ∷ [])) (reportOfSources (boiler 7 ∷ [])) 135) 8 136
+    -- a number that is absent; a buffer that is a byte short
+    ∷ row (removing 9 136) 13 9
+    ∷ row (removing 7 95) 8 96
+    ∷ []
+
+pub record Examples : Type 0 where
+  -- two lines of half a gram each are rounded once, to a gram
+  pub once : calculates (case 6 6 (line 30 1 0 1000 0 0 ∷ line 30 1 0 1000 0 0 ∷ []) (gives [])) ≡ gives (0 ∷ 0 ∷ 1 ∷ 298 ∷ [])
+  -- the text that document 01 has for the twins
+  pub shown : made 100 (text (reportOfSources (boiler 8 ∷ boiler 7 ∷ [])))
+      ≡ ascii "2023 2 5862400000 0 0 5862400000\n7 1 2931200000 0 0 2931200000\n8 1 2931200000 0 0 2931200000\n"
+  pub refused : map (λ r. r .answer) rows ≡ map (λ r. record { number = r .number; place = r .place; length = 0 }) rows
+  -- the reports of the twins combine to that of their register; one of them taken out leaves the other's
+  pub together : made 136 (combined (reportOfSources (boiler 7 ∷ [])) (reportOfSources (boiler 8 ∷ []))) ≡ reportOfSources (boiler 8 ∷ boiler 7 ∷ [])
+  pub apart : made 136 (removed (reportOfSources (boiler 8 ∷ boiler 7 ∷ [])) 8) ≡ reportOfSources (boiler 7 ∷ [])
+  -- a name is a part of its register; a number in none, or in both registers, has none
+  pub name : found twins 7 ≡ record { offset = 116; length = 12 }
+  pub nameless : found twins 9 ≡ record { offset = 0; length = 0 }
+  pub names : foundOfTwo (encode 2022 (boiler 3 ∷ [])) twins 7 ≡ record { which = 2; offset = 116; length = 12 }
+  pub inBoth : foundOfTwo twins twins 7 ≡ record { which = 1; offset = 0; length = 0 }
