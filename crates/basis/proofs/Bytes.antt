@@ -20,6 +20,11 @@ bytesOf-bytes zero v i = omega arith
 bytesOf-bytes (suc k) v zero = omega arith
 bytesOf-bytes (suc k) v (suc i) = bytesOf-bytes k (v / 256) i
 
+pub append-bytes : (xs ys : List ℕ) → Bytes xs → Bytes ys → Bytes (xs ++ ys)
+append-bytes [] ys h g i = g i
+append-bytes (x ∷ xs) ys h g zero = h 0
+append-bytes (x ∷ xs) ys h g (suc i) = append-bytes xs ys (λ k. h (suc k)) g i
+
 -- a number that fits its width is read as it was written
 pub numberOf-bytesOf : (k v : ℕ) → v < 256 ^ k → numberOf (bytesOf k v) ≡ v
 unfolding bytesOf numberOf
@@ -112,29 +117,35 @@ module _ {xs ys zs : List ℕ} {at : ℕ} (w : Written xs at ys zs) where
       let q : at + length ys + (p - (at + length ys)) ≡ p = omega arith in
       rw (← q, ← drop-drop (p - (at + length ys)) (at + length ys) zs, ← drop-drop (p - (at + length ys)) (at + length ys) xs, back-kept)
 
--- numbers that are packed are read at the place that the widths before them make
-pub record Fits (ws ns : List ℕ) : Type 0 where
-  pub as-many : length ns ≡ length ws
-  pub each : (i : ℕ) → i < length ws → getD ns i 0 < 256 ^ getD ws i 0
+-- each number fits its width, and there are as many
+abbrev pub Fits : List ℕ → List ℕ → Type 0
+Fits [] [] = Unit {0}
+Fits [] (n ∷ ns) = ⊥
+Fits (w ∷ ws) [] = ⊥
+Fits (w ∷ ws) (n ∷ ns) = (n < 256 ^ w) × Fits ws ns
 
-pub length-packed : (ws ns : List ℕ) → length ns ≡ length ws → length (packed ws ns) ≡ sum ws
+pub length-packed : (ws ns : List ℕ) → Fits ws ns → length (packed ws ns) ≡ sum ws
 unfolding packed sum
-length-packed [] ns e = refl
-length-packed (w ∷ ws) [] e = omega arith
-length-packed (w ∷ ws) (n ∷ ns) e =
-    let t : length ns ≡ length ws = omega arith in
-    rw (length-append, length-bytesOf, length-packed ws ns t)
+length-packed [] [] f = refl
+length-packed [] (n ∷ ns) f = absurd f
+length-packed (w ∷ ws) [] f = absurd f
+length-packed (w ∷ ws) (n ∷ ns) f = rw (length-append, length-bytesOf, length-packed ws ns (f .1))
 
+-- numbers that are packed are read at the place that the widths before them make
 pub numberAt-packed : (ws ns rest : List ℕ) → Fits ws ns → (i : ℕ) → i < length ws
     → numberAt (getD ws i 0) (packed ws ns ++ rest) (sum (take i ws)) ≡ getD ns i 0
 unfolding packed sum numberAt
-numberAt-packed [] ns rest f i h = omega arith
-numberAt-packed (w ∷ ws) [] rest f i h = let e : 0 ≡ suc (length ws) = f .as-many in omega arith
+numberAt-packed [] ns rest f i h = absurd (not-suc-le-zero h)
+numberAt-packed (w ∷ ws) [] rest f i h = absurd f
 numberAt-packed (w ∷ ws) (n ∷ ns) rest f zero h =
     let l : length (bytesOf w n) ≡ w = length-bytesOf w n in
-    rw (append-assoc, take-at (bytesOf w n)) (numberOf-bytesOf w n (f .each 0 (omega arith)))
+    rw (append-assoc, take-at (bytesOf w n)) (numberOf-bytesOf w n (f .0))
 numberAt-packed (w ∷ ws) (n ∷ ns) rest f (suc i) h =
     let l : length (bytesOf w n) ≡ w = length-bytesOf w n in
-    let t : length ns ≡ length ws = let e : suc (length ns) ≡ suc (length ws) = f .as-many in omega arith in
-    rw (append-assoc, ← drop-drop (sum (take i ws)) w, drop-at (bytesOf w n))
-    (numberAt-packed ws ns rest (record { as-many = t; each = λ j q. f .each (suc j) (suc-le-suc q) }) i (le-of-suc-le-suc h))
+    rw (append-assoc, ← drop-drop (sum (take i ws)) w, drop-at (bytesOf w n)) (numberAt-packed ws ns rest (f .1) i (le-of-suc-le-suc h))
+
+pub packed-bytes : (ws ns : List ℕ) → Bytes (packed ws ns)
+unfolding packed
+packed-bytes [] ns i = omega arith
+packed-bytes (w ∷ ws) [] i = omega arith
+packed-bytes (w ∷ ws) (n ∷ ns) i = append-bytes (bytesOf w n) (packed ws ns) (bytesOf-bytes w n) (packed-bytes ws ns) i

@@ -1,0 +1,82 @@
+-- Laws of counting up, of `any`, of sums over a list. Assumes nothing.
+use mathlib.Core.Bool.{Bool, true, false, _||_, _&&_, not}
+use mathlib.Core.List.{List, [], _∷_, _++_, map}
+use mathlib.Core.Logic.{_↔_}
+use mathlib.Core.Path.{_≡_, refl, sym, ap, _∙_}
+use Prim.Native.Nat.{ℕ, zero, suc, _+_, _*_, _≤_, _<_, zero-le, suc-le-suc}
+use native.Mathlib.Decide.{decLt}
+use native.Mathlib.Nat.{add-zero, zero-add, not-suc-le-zero, le-of-suc-le-suc}
+use native.Mathlib.Numerals.{add-one}
+use native.Mathlib.Omega.{arith}
+use lib.ListN.{length, getD, take, drop, replicate}
+use Rattle.basis.specs.Lists.{sum, countUp, any}
+use Rattle.basis.proofs.First.{clash}
+use Rattle.demands.specs.Valid.{Each}
+
+pub and-true : (a b : Bool) → a && b ≡ true → (a ≡ true) × (b ≡ true)
+and-true true b e = (refl, e)
+and-true false b e = absurd (clash e refl)
+
+pub true-and : (a b : Bool) → a ≡ true → b ≡ true → a && b ≡ true
+true-and a b p q = rw p q
+
+pub or-false : (a b : Bool) → a || b ≡ false → (a ≡ false) × (b ≡ false)
+or-false true b e = absurd (clash refl e)
+or-false false b e = (refl, e)
+
+pub false-or : (a b : Bool) → a ≡ false → b ≡ false → a || b ≡ false
+false-or a b p q = rw p q
+
+-- none of the numbers counted up has the test
+pub none-counted : (test : ℕ → Bool) (n j : ℕ) → ((i : ℕ) → j ≤ i → i < j + n → test i ≡ false) → any test (countUp j n) ≡ false
+unfolding any countUp
+none-counted test zero j h = refl
+none-counted test (suc n) j h =
+    false-or (test j) (any test (countUp (j + 1) n)) (h j (omega arith) (omega arith)) (none-counted test n (j + 1) (λ i l g. h i (omega arith) (omega arith)))
+
+pub counted-none : (test : ℕ → Bool) (n j : ℕ) → any test (countUp j n) ≡ false → (i : ℕ) → j ≤ i → i < j + n → test i ≡ false
+unfolding any countUp
+counted-none test zero j e i l g = absurd (omega arith)
+counted-none test (suc n) j e i l g =
+    let parts : (test j ≡ false) × (any test (countUp (j + 1) n) ≡ false) = or-false (test j) (any test (countUp (j + 1) n)) e in
+    by (decLt j i) (parts .0) (λ q. counted-none test n (j + 1) (parts .1) i (omega arith) (omega arith))
+  where
+    by : Dec (j < i) → test j ≡ false → (j < i → test i ≡ false) → test i ≡ false
+    by (yes q) h later = later q
+    by (no q) h later = let f : i ≡ j = omega arith in rw f h
+
+-- what counting up makes, at an index
+pub getD-counted : {A : Type 0} (f : ℕ → A) (d : A) (n j i : ℕ) → i < n → getD (map f (countUp j n)) i d ≡ f (j + i)
+unfolding countUp
+getD-counted f d zero j i l = absurd (not-suc-le-zero l)
+getD-counted f d (suc n) j zero l = ap f (omega arith)
+getD-counted f d (suc n) j (suc i) l = getD-counted f d n (j + 1) i (le-of-suc-le-suc l) ∙ ap f (omega arith)
+
+-- a list is made of its elements, by index
+pub counted-list : {A : Type 0} (f : ℕ → A) (d : A) (xs : List A) (j : ℕ) → ((i : ℕ) → i < length xs → f (j + i) ≡ getD xs i d) → map f (countUp j (length xs)) ≡ xs
+unfolding countUp
+counted-list f d [] j h = refl
+counted-list f d (x ∷ xs) j h =
+    let e : f j ≡ x = ap f (sym (add-zero j)) ∙ h 0 (suc-le-suc zero-le) in
+    let q : (i : ℕ) → j + 1 + i ≡ j + suc i = λ i. omega arith in
+    rw (e, counted-list f d xs (j + 1) (λ i l. ap f (q i) ∙ h (suc i) (suc-le-suc l)))
+
+pub each-at : {A : Type 0} (P : A → Type 0) (xs : List A) (d : A) → Each P xs → (i : ℕ) → i < length xs → P (getD xs i d)
+each-at P [] d h i l = absurd (not-suc-le-zero l)
+each-at P (x ∷ xs) d h zero l = h .0
+each-at P (x ∷ xs) d h (suc i) l = each-at P xs d (h .1) i (le-of-suc-le-suc l)
+
+pub at-each : {A : Type 0} (P : A → Type 0) (xs : List A) (d : A) → ((i : ℕ) → i < length xs → P (getD xs i d)) → Each P xs
+at-each P [] d h = tt
+at-each P (x ∷ xs) d h = (h 0 (suc-le-suc zero-le), at-each P xs d (λ i l. h (suc i) (suc-le-suc l)))
+
+pub sum-widths : (w n k : ℕ) → k ≤ n → sum (take k (replicate n w)) ≡ w * k
+unfolding sum
+sum-widths w n zero l = omega arith
+sum-widths w zero (suc k) l = absurd (not-suc-le-zero l)
+sum-widths w (suc n) (suc k) l = rw (sum-widths w n k (le-of-suc-le-suc l)) (omega arith)
+
+pub sum-bounded : {A : Type 0} (f : A → ℕ) (P : A → Type 0) (b : ℕ) → ((x : A) → P x → f x ≤ b) → (xs : List A) → Each P xs → sum (map f xs) ≤ b * length xs
+unfolding sum
+sum-bounded f P b h [] p = zero-le
+sum-bounded f P b h (x ∷ xs) p = omega (arith, h x (p .0), sum-bounded f P b h xs (p .1))

@@ -1,0 +1,123 @@
+-- Order by a key: it does not go by how a list was dealt. Assumes nothing.
+use mathlib.Core.Bool.{Bool, true, false, cond}
+use mathlib.Core.List.{List, [], _∷_, _++_, List·Permᴰ, List·Permᴰ·nil, List·Permᴰ·cons, List·Permᴰ·swap, List·Permᴰ·trans}
+use mathlib.Core.Logic.{_≢_}
+use mathlib.Core.Path.{_≡_, refl, sym, ap, ap₂, subst, _∙_}
+use Prim.Native.Nat.{ℕ, zero, suc, _+_, _≤_, _<_}
+use native.Mathlib.Decide.{decLt}
+use native.Mathlib.Nat.{lt-trans}
+use native.Mathlib.Omega.{arith}
+use lib.Dec.{leb}
+use borrow.Author.Tests.{le-leb, lt-leb, leb-true, leb-false}
+use Rattle.basis.specs.Lists.{insertBy, sortedBy}
+use Rattle.demands.specs.Valid.{Each, Ascending, Distinct}
+
+lt-ne : (m n : ℕ) → m < n → m ≡ n → ⊥
+lt-ne m n l e = omega arith
+
+lt-of-le-ne : {m n : ℕ} → m ≤ n → (m ≡ n → ⊥) → m < n
+lt-of-le-ne l e = omega arith
+
+pub each-map : {A : Type 0} {P Q : A → Type 0} → ((x : A) → P x → Q x) → (xs : List A) → Each P xs → Each Q xs
+each-map f [] p = tt
+each-map f (x ∷ xs) p = (f x (p .0), each-map f xs (p .1))
+
+module _ {A : Type 0} (key : A → ℕ) where
+  -- two insertions of different keys may change places
+  insert-below : (x y : A) (l : List A) → key x < key y → insertBy key x (insertBy key y l) ≡ insertBy key y (insertBy key x l)
+  unfolding insertBy
+  insert-below x y [] h = rw (le-leb (key x) (key y) (omega arith), lt-leb (key y) (key x) h)
+  insert-below x y (z ∷ zs) h = by (leb (key y) (key z)) refl (leb (key x) (key z)) refl (insert-below x y zs h)
+    where
+      up : leb (key x) (key y) ≡ true
+      up = le-leb (key x) (key y) (omega arith)
+      down : leb (key y) (key x) ≡ false
+      down = lt-leb (key y) (key x) h
+      by : (b : Bool) → leb (key y) (key z) ≡ b → (c : Bool) → leb (key x) (key z) ≡ c
+          → insertBy key x (insertBy key y zs) ≡ insertBy key y (insertBy key x zs)
+          → insertBy key x (cond b (y ∷ z ∷ zs) (z ∷ insertBy key y zs)) ≡ insertBy key y (cond c (x ∷ z ∷ zs) (z ∷ insertBy key x zs))
+      by true p true q e = rw (up, down, p)
+      by true p false q e = absurd (omega (arith, leb-true (key y) (key z) p, leb-false (key x) (key z) q))
+      by false p true q e = rw (q, down, p)
+      by false p false q e = rw (q, p, e)
+
+  insert-apart : (x y : A) (l : List A) → key x ≢ key y → insertBy key x (insertBy key y l) ≡ insertBy key y (insertBy key x l)
+  insert-apart x y l n = by (decLt (key x) (key y))
+    where
+      by : Dec (key x < key y) → insertBy key x (insertBy key y l) ≡ insertBy key y (insertBy key x l)
+      by (yes h) = insert-below x y l h
+      by (no h) = sym (insert-below y x l (omega arith))
+
+  -- what holds of each holds of each after dealing
+  pub each-perm : (P : A → Type 0) {xs ys : List A} → List·Permᴰ xs ys → Each P xs → Each P ys
+  each-perm P List·Permᴰ·nil p = tt
+  each-perm P (List·Permᴰ·cons e d) p = (subst P e (p .0), each-perm P d (p .1))
+  each-perm P (List·Permᴰ·swap e f) p = (subst P f (p .1 .0), (subst P e (p .0), p .1 .1))
+  each-perm P (List·Permᴰ·trans d f) p = each-perm P f (each-perm P d p)
+
+  pub distinct-perm : {xs ys : List A} → List·Permᴰ xs ys → Distinct key xs → Distinct key ys
+  distinct-perm List·Permᴰ·nil p = tt
+  distinct-perm (List·Permᴰ·cons {l₂ = l₂} e d) p =
+      (subst (λ (c : A). Each (λ y. key c ≢ key y) l₂) e (each-perm (λ y. key _ ≢ key y) d (p .0)), distinct-perm d (p .1))
+  distinct-perm (List·Permᴰ·swap {l = l} e f) p =
+      ((λ q. p .0 .0 (ap key e ∙ sym q ∙ sym (ap key f)), subst (λ (c : A). Each (λ y. key c ≢ key y) l) f (p .1 .0)),
+      (subst (λ (c : A). Each (λ y. key c ≢ key y) l) e (p .0 .1), p .1 .1))
+  distinct-perm (List·Permᴰ·trans d f) p = distinct-perm f (distinct-perm d p)
+
+  -- however a list of different keys is dealt, its order is the same
+  pub sorted-perm : {xs ys : List A} → List·Permᴰ xs ys → Distinct key xs → sortedBy key xs ≡ sortedBy key ys
+  unfolding sortedBy
+  sorted-perm List·Permᴰ·nil p = refl
+  sorted-perm (List·Permᴰ·cons e d) p = ap₂ (insertBy key) e (sorted-perm d (p .1))
+  sorted-perm (List·Permᴰ·swap {a = a} {b = b} {l = l} e f) p =
+      insert-apart a b (sortedBy key l) (p .0 .0) ∙ ap₂ (λ (c d : A). insertBy key c (insertBy key d (sortedBy key l))) f e
+  sorted-perm (List·Permᴰ·trans d f) p = sorted-perm d p ∙ sorted-perm f (distinct-perm d p)
+
+  -- order is kept and made: what ascends stays as it is, and different keys come to ascend
+  pub ascending-each : (n : ℕ) (xs : List A) → Ascending key n xs → Each (λ y. n < key y) xs
+  ascending-each n [] a = tt
+  ascending-each n (x ∷ xs) a = (a .0, each-map (λ y l. lt-trans (a .0) l) xs (ascending-each (key x) xs (a .1)))
+
+  pub ascending-distinct : (n : ℕ) (xs : List A) → Ascending key n xs → Distinct key xs
+  ascending-distinct n [] a = tt
+  ascending-distinct n (x ∷ xs) a =
+      (each-map (λ y l e. lt-ne (key x) (key y) l e) xs (ascending-each (key x) xs (a .1)), ascending-distinct (key x) xs (a .1))
+
+  insert-front : (x : A) (xs : List A) → Ascending key (key x) xs → insertBy key x xs ≡ x ∷ xs
+  unfolding insertBy
+  insert-front x [] a = refl
+  insert-front x (y ∷ ys) a = rw (le-leb (key x) (key y) (omega (arith, a .0)))
+
+  pub ascending-sorted : (n : ℕ) (xs : List A) → Ascending key n xs → sortedBy key xs ≡ xs
+  unfolding sortedBy
+  ascending-sorted n [] a = refl
+  ascending-sorted n (x ∷ xs) a = rw (ascending-sorted (key x) xs (a .1)) (insert-front x xs (a .1))
+
+  insert-ascending : (n : ℕ) (x : A) (xs : List A) → n < key x → Each (λ y. key x ≢ key y) xs → Ascending key n xs → Ascending key n (insertBy key x xs)
+  unfolding insertBy
+  insert-ascending n x [] l d a = (l, tt)
+  insert-ascending n x (y ∷ ys) l d a = by (leb (key x) (key y)) refl (λ m. insert-ascending (key y) x ys m (d .1) (a .1))
+    where
+      by : (b : Bool) → leb (key x) (key y) ≡ b → (key y < key x → Ascending key (key y) (insertBy key x ys)) → Ascending key n (cond b (x ∷ y ∷ ys) (y ∷ insertBy key x ys))
+      by true e later = (l, (lt-of-le-ne (leb-true (key x) (key y) e) (d .0), a .1))
+      by false e later = (a .0, later (leb-false (key x) (key y) e))
+
+  insert-each : (P : A → Type 0) (x : A) (xs : List A) → P x → Each P xs → Each P (insertBy key x xs)
+  unfolding insertBy
+  insert-each P x [] p q = (p, tt)
+  insert-each P x (y ∷ ys) p q = by (leb (key x) (key y)) (insert-each P x ys p (q .1))
+    where
+      by : (b : Bool) → Each P (insertBy key x ys) → Each P (cond b (x ∷ y ∷ ys) (y ∷ insertBy key x ys))
+      by true r = (p, q)
+      by false r = (q .0, r)
+
+  pub sorted-each : (P : A → Type 0) (xs : List A) → Each P xs → Each P (sortedBy key xs)
+  unfolding sortedBy
+  sorted-each P [] p = tt
+  sorted-each P (x ∷ xs) p = insert-each P x (sortedBy key xs) (p .0) (sorted-each P xs (p .1))
+
+  pub sorted-ascending : (n : ℕ) (xs : List A) → Each (λ y. n < key y) xs → Distinct key xs → Ascending key n (sortedBy key xs)
+  unfolding sortedBy
+  sorted-ascending n [] l d = tt
+  sorted-ascending n (x ∷ xs) l d =
+      insert-ascending n x (sortedBy key xs) (l .0) (sorted-each (λ y. key x ≢ key y) xs (d .0)) (sorted-ascending n xs (l .1) (d .1))
