@@ -22,7 +22,7 @@ pub record FirstToRefuse (tests : List Verdict) (number place i : ℕ) : Type 0 
   pub fires : getD tests i Passes ≡ Refuses number place
   pub earlier : (k : ℕ) → k < i → getD tests k Passes ≡ Passes
 
-never : {n p : ℕ} → Passes ≡ Refuses n p → ⊥
+pub never : {n p : ℕ} → Passes ≡ Refuses n p → ⊥
 never e = let z : _≡_ {A = ℕ} 0 1 = cc in omega arith
 
 pub refused-by : (tests : List Verdict) (number place i : ℕ) → FirstToRefuse tests number place i → firstRefusal tests ≡ Refuses number place

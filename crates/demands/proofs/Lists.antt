@@ -27,6 +27,14 @@ or-false false b e = (refl, e)
 pub false-or : (a b : Bool) → a ≡ false → b ≡ false → a || b ≡ false
 false-or a b p q = rw p q
 
+pub or-true : (a : Bool) → a || true ≡ true
+or-true true = refl
+or-true false = refl
+
+pub not-both : (b : Bool) → (b ≡ true → ⊥) → b ≡ false
+not-both true h = absurd (h refl)
+not-both false h = refl
+
 -- none of the numbers counted up has the test
 pub none-counted : (test : ℕ → Bool) (n j : ℕ) → ((i : ℕ) → j ≤ i → i < j + n → test i ≡ false) → any test (countUp j n) ≡ false
 unfolding any countUp
@@ -80,3 +88,25 @@ pub sum-bounded : {A : Type 0} (f : A → ℕ) (P : A → Type 0) (b : ℕ) → 
 unfolding sum
 sum-bounded f P b h [] p = zero-le
 sum-bounded f P b h (x ∷ xs) p = omega (arith, h x (p .0), sum-bounded f P b h xs (p .1))
+
+-- a test holds of any of a list exactly if it holds at some index
+pub any-some : {A : Type 0} (test : A → Bool) (d : A) (xs : List A) → any test xs ≡ true → (i : ℕ) × (i < length xs) × (test (getD xs i d) ≡ true)
+unfolding any
+any-some test d [] e = absurd (clash e refl)
+any-some test d (x ∷ xs) e = by (test x) refl e (any-some test d xs)
+  where
+    by : (b : Bool) → test x ≡ b → b || any test xs ≡ true → (any test xs ≡ true → (i : ℕ) × (i < length xs) × (test (getD xs i d) ≡ true))
+        → (i : ℕ) × (i < suc (length xs)) × (test (getD (x ∷ xs) i d) ≡ true)
+    by true h f later = (0, suc-le-suc zero-le, h)
+    by false h f later = let r = later f in (suc (r .0), suc-le-suc (r .1), r .2)
+
+pub some-any : {A : Type 0} (test : A → Bool) (d : A) (xs : List A) (i : ℕ) → i < length xs → test (getD xs i d) ≡ true → any test xs ≡ true
+unfolding any
+some-any test d [] i l h = absurd (not-suc-le-zero l)
+some-any test d (x ∷ xs) zero l h = rw h
+some-any test d (x ∷ xs) (suc i) l h = rw (some-any test d xs i (le-of-suc-le-suc l) h) (or-true (test x))
+
+pub any-map : {A B : Type 0} (test : B → Bool) (f : A → B) (xs : List A) → any test (map f xs) ≡ any (λ x. test (f x)) xs
+unfolding any
+any-map test f [] = refl
+any-map test f (x ∷ xs) = ap (λ (b : Bool). test (f x) || b) (any-map test f xs)

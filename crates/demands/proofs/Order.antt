@@ -5,12 +5,14 @@ use mathlib.Core.Logic.{_≢_}
 use mathlib.Core.Path.{_≡_, refl, sym, ap, ap₂, subst, _∙_}
 use Prim.Native.Nat.{ℕ, zero, suc, _+_, _≤_, _<_}
 use native.Mathlib.Decide.{decLt}
-use native.Mathlib.Nat.{lt-trans}
+use native.Mathlib.Nat.{lt-trans, not-suc-le-zero, le-of-suc-le-suc}
 use native.Mathlib.Omega.{arith}
 use lib.Dec.{leb}
+use lib.ListN.{length, getD}
 use borrow.Author.Tests.{le-leb, lt-leb, leb-true, leb-false}
 use Rattle.basis.specs.Lists.{insertBy, sortedBy}
 use Rattle.demands.specs.Valid.{Each, Ascending, Distinct}
+use Rattle.demands.proofs.Lists.{each-at}
 
 lt-ne : (m n : ℕ) → m < n → m ≡ n → ⊥
 lt-ne m n l e = omega arith
@@ -21,6 +23,17 @@ lt-of-le-ne l e = omega arith
 pub each-map : {A : Type 0} {P Q : A → Type 0} → ((x : A) → P x → Q x) → (xs : List A) → Each P xs → Each Q xs
 each-map f [] p = tt
 each-map f (x ∷ xs) p = (f x (p .0), each-map f xs (p .1))
+
+pub each-append : {A : Type 0} (P : A → Type 0) (xs ys : List A) → Each P xs → Each P ys → Each P (xs ++ ys)
+each-append P [] ys p q = q
+each-append P (x ∷ xs) ys p q = (p .0, each-append P xs ys (p .1) q)
+
+-- what holds of each holds of each after dealing
+pub each-perm : {A : Type 0} (P : A → Type 0) {xs ys : List A} → List·Permᴰ xs ys → Each P xs → Each P ys
+each-perm P List·Permᴰ·nil p = tt
+each-perm P (List·Permᴰ·cons e d) p = (subst P e (p .0), each-perm P d (p .1))
+each-perm P (List·Permᴰ·swap e f) p = (subst P f (p .1 .0), (subst P e (p .0), p .1 .1))
+each-perm P (List·Permᴰ·trans d f) p = each-perm P f (each-perm P d p)
 
 module _ {A : Type 0} (key : A → ℕ) where
   -- two insertions of different keys may change places
@@ -47,13 +60,6 @@ module _ {A : Type 0} (key : A → ℕ) where
       by : Dec (key x < key y) → insertBy key x (insertBy key y l) ≡ insertBy key y (insertBy key x l)
       by (yes h) = insert-below x y l h
       by (no h) = sym (insert-below y x l (omega arith))
-
-  -- what holds of each holds of each after dealing
-  pub each-perm : (P : A → Type 0) {xs ys : List A} → List·Permᴰ xs ys → Each P xs → Each P ys
-  each-perm P List·Permᴰ·nil p = tt
-  each-perm P (List·Permᴰ·cons e d) p = (subst P e (p .0), each-perm P d (p .1))
-  each-perm P (List·Permᴰ·swap e f) p = (subst P f (p .1 .0), (subst P e (p .0), p .1 .1))
-  each-perm P (List·Permᴰ·trans d f) p = each-perm P f (each-perm P d p)
 
   pub distinct-perm : {xs ys : List A} → List·Permᴰ xs ys → Distinct key xs → Distinct key ys
   distinct-perm List·Permᴰ·nil p = tt
@@ -121,3 +127,13 @@ module _ {A : Type 0} (key : A → ℕ) where
   sorted-ascending n [] l d = tt
   sorted-ascending n (x ∷ xs) l d =
       insert-ascending n x (sortedBy key xs) (l .0) (sorted-each (λ y. key x ≢ key y) xs (d .0)) (sorted-ascending n xs (l .1) (d .1))
+
+  pub ascending-lt : (n : ℕ) (xs : List A) (d : A) → Ascending key n xs → (i k : ℕ) → i < k → k < length xs → key (getD xs i d) < key (getD xs k d)
+  ascending-lt n [] d a i k l m = absurd (not-suc-le-zero m)
+  ascending-lt n (x ∷ xs) d a i zero l m = absurd (not-suc-le-zero l)
+  ascending-lt n (x ∷ xs) d a zero (suc k) l m = each-at (λ y. key x < key y) xs d (ascending-each (key x) xs (a .1)) k (le-of-suc-le-suc m)
+  ascending-lt n (x ∷ xs) d a (suc i) (suc k) l m = ascending-lt (key x) xs d (a .1) i k (le-of-suc-le-suc l) (le-of-suc-le-suc m)
+
+  pub distinct-append : (xs ys : List A) → Distinct key xs → Distinct key ys → Each (λ x. Each (λ y. key x ≢ key y) ys) xs → Distinct key (xs ++ ys)
+  distinct-append [] ys d f a = f
+  distinct-append (x ∷ xs) ys d f a = (each-append (λ y. key x ≢ key y) xs ys (d .0) (a .0), distinct-append xs ys (d .1) f (a .1))

@@ -219,7 +219,7 @@ module _ (y : ℕ) (es : List Entry) (v : Reportable y es) where
       (read-rows entryBytes entryIn entryLength Entered length-entry (λ e rest p. entry-back e p rest) entriesAt (reportBytes y es) [] es 0 (v .each)
       (rows-behind ∙ sym (append-nil rows)))
 
-  length-report : length (reportBytes y es) ≡ reportLength (length es)
+  pub length-report : length (reportBytes y es) ≡ reportLength (length es)
   unfolding reportBytes
   length-report = rw (length-append, length-header, length-rows entryBytes entryIn entryLength Entered length-entry es (v .each))
 

@@ -122,11 +122,11 @@ module _ (r : List ℕ) (zeros : numberAt 3 r 5 ≡ 0) (right : figureIn r gasCo
 
 -- A well-formed report, and what it is written of.
 module _ (b : List ℕ) (h : Bytes b) (f : Formed b) where
-  count-is : length (entriesOf b) ≡ entryCount b
+  pub count-is : length (entriesOf b) ≡ entryCount b
   unfolding entriesOf
   count-is = length-map (countUp 0 (entryCount b)) (λ i. entryIn (entryAt b i)) ∙ length-countUp 0 (entryCount b)
 
-  entry-at : (i : ℕ) → i < entryCount b → getD (entriesOf b) i noEntry ≡ entryIn (entryAt b i)
+  pub entry-at : (i : ℕ) → i < entryCount b → getD (entriesOf b) i noEntry ≡ entryIn (entryAt b i)
   unfolding entriesOf
   entry-at i l = getD-counted (λ i. entryIn (entryAt b i)) noEntry (entryCount b) 0 i l ∙ ap (λ (k : ℕ). entryIn (entryAt b k)) (zero-add i)
 

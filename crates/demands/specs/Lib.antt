@@ -1,1 +1,3 @@
 pub mod Valid
+pub mod Exactly
+pub mod Refusals

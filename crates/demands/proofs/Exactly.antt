@@ -1,0 +1,137 @@
+-- Tests decide rows: the first refusal of a list of tests is the first row that refuses. Assumes nothing.
+use mathlib.Core.Bool.{Bool, true, false, cond}
+use mathlib.Core.List.{List, [], _∷_, _++_}
+use mathlib.Core.Logic.{_⊎_, inl, inr, ⊎-elim, _↔_, _≢_}
+use mathlib.Core.Path.{_≡_, refl, sym, ap, _∙_}
+use Prim.Native.Nat.{ℕ, zero, suc, _<_}
+use native.Mathlib.Omega.{arith}
+use lib.Dec.{ltb}
+use lib.ListN.{length, getD}
+use borrow.Author.Tests.{ltb-true, lt-ltb}
+use Rattle.basis.specs.declared.Answer.{Answer}
+use Rattle.basis.specs.declared.Verdict.{Verdict}
+use Rattle.basis.specs.declared.Verdict.the-variants.{Passes, Refuses}
+use Rattle.basis.specs.First.{first}
+use Rattle.basis.specs.Answers.{refuseIf, refuseAtFirst, firstRefusal, answer, Outcome, settled}
+use Rattle.basis.proofs.First.{clash, first-hits, first-misses, first-is}
+use Rattle.basis.proofs.Answers.{never, passed-exactly}
+use Rattle.meaning.specs.Calls.{roomTest, written}
+use Rattle.demands.specs.Exactly.{Row, Nowhere, at, atLeast, numbered, FirstOf, Exactly}
+
+-- a test refuses exactly where its row does
+abbrev pub Decides : Verdict → Row → Type 0
+Decides v row = (n p : ℕ) → (v ≡ Refuses n p) ↔ row n p
+
+abbrev pub DecideAll : List Verdict → List Row → Type 0
+DecideAll [] [] = Unit {0}
+DecideAll [] (row ∷ rows) = ⊥
+DecideAll (v ∷ vs) [] = ⊥
+DecideAll (v ∷ vs) (row ∷ rows) = Decides v row × (v ≡ Passes → DecideAll vs rows)
+
+pub passes-nowhere : (v : Verdict) (row : Row) → Decides v row → v ≡ Passes → Nowhere row
+passes-nowhere v row d e n p r = never (sym e ∙ d n p .1 r)
+
+-- of a list: each test decides its row where the tests before it pass
+pub first-decides : (vs : List Verdict) (rows : List Row) → DecideAll vs rows → Decides (firstRefusal vs) (FirstOf rows)
+unfolding firstRefusal
+first-decides [] [] d n p = (λ e. never e, λ r. absurd r)
+first-decides [] (row ∷ rows) d n p = absurd d
+first-decides (v ∷ vs) [] d n p = absurd d
+first-decides (Passes ∷ vs) (row ∷ rows) d n p =
+    let later = first-decides vs rows (d .1 refl) n p in
+    let none = passes-nowhere Passes row (d .0) refl in
+    (λ e. inr (none, later .0 e), λ r. ⊎-elim (λ h. absurd (none n p h)) (λ h. later .1 (h .1)) r)
+first-decides (Refuses m q ∷ vs) (row ∷ rows) d n p =
+    (λ e. inl (d .0 n p .0 e), λ r. ⊎-elim (λ h. d .0 n p .1 h) (λ h. absurd (h .0 m q (d .0 m q .0 refl))) r)
+
+pub decide-append : (vs us : List Verdict) (rows rows′ : List Row) → DecideAll vs rows → (firstRefusal vs ≡ Passes → DecideAll us rows′) → DecideAll (vs ++ us) (rows ++ rows′)
+unfolding firstRefusal
+decide-append [] us [] rows′ d e = e refl
+decide-append [] us (row ∷ rows) rows′ d e = absurd d
+decide-append (v ∷ vs) us [] rows′ d e = absurd d
+decide-append (Passes ∷ vs) us (row ∷ rows) rows′ d e = (d .0, λ h. decide-append vs us rows rows′ (d .1 h) e)
+decide-append (Refuses m q ∷ vs) us (row ∷ rows) rows′ d e = (d .0, λ h. absurd (never (sym h)))
+
+pub refuses-number : {m q n p : ℕ} → Refuses m q ≡ Refuses n p → n ≡ m
+refuses-number e = cc
+
+pub refuses-place : {m q n p : ℕ} → Refuses m q ≡ Refuses n p → p ≡ q
+refuses-place e = cc
+
+pub refuses-both : {m q n p : ℕ} → n ≡ m → p ≡ q → Refuses m q ≡ Refuses n p
+refuses-both e f = cc
+
+-- a test of a condition
+pub decide-if : (b : Bool) (number place : ℕ) (C : Type 0) → (b ≡ true → C) → (b ≡ false → C → ⊥) → Decides (refuseIf b number place) (at number place C)
+decide-if true number place C holds fails n p = (λ e. (refuses-number e, refuses-place e, holds refl), λ r. refuses-both (r .0) (r .1))
+decide-if false number place C holds fails n p = (λ e. absurd (never e), λ r. absurd (fails refl (r .2)))
+
+-- a test at the first index that is wrong, whose number goes by the index
+pub decide-first : (test : ℕ → Bool) (count : ℕ) (number : ℕ → ℕ) (wrong : ℕ → ℕ → Type 0)
+    → ((i : ℕ) → i < count → test i ≡ true → wrong (number i) i)
+    → ((i n : ℕ) → i < count → wrong n i → (test i ≡ true) × (n ≡ number i))
+    → Decides (refuseIf (ltb (first test count) count) (number (first test count)) (first test count)) (atLeast count wrong)
+decide-first test count number wrong right only n p =
+    (by (ltb (first test count) count) refl, back)
+  where
+    by : (b : Bool) → ltb (first test count) count ≡ b → refuseIf b (number (first test count)) (first test count) ≡ Refuses n p → atLeast count wrong n p
+    by true t e =
+        let f : p ≡ first test count = refuses-place e in
+        let m : n ≡ number (first test count) = refuses-number e in
+        let l : first test count < count = ltb-true (first test count) count t in
+        rw (f, m)
+        (l, right (first test count) l (first-hits test count l),
+        λ k q o w. clash (only k o (omega arith) w .0) (first-misses test count k q))
+    by false t e = absurd (never e)
+    back : atLeast count wrong n p → refuseIf (ltb (first test count) count) (number (first test count)) (first test count) ≡ Refuses n p
+    back r =
+        let h = only p n (r .0) (r .1) in
+        let f : first test count ≡ p = first-is test count p (r .0) (λ k q. miss (test k) refl (λ t. r .2 k q (number k) (right k (omega (arith, r .0)) t))) (h .0) in
+        rw (f, lt-ltb p count (r .0)) (refuses-both (h .1) refl)
+      where
+        miss : (b : Bool) {c : Bool} → c ≡ b → (c ≡ true → ⊥) → c ≡ false
+        miss true e f = absurd (f e)
+        miss false e f = e
+
+pub settled-answer : (v : Verdict) (made buffer : List ℕ) → settled v made buffer .answer ≡ answer v (length made)
+unfolding settled
+settled-answer Passes made buffer = refl
+settled-answer (Refuses n p) made buffer = refl
+
+abbrev pub NumbersOf : List Row → Type 0
+NumbersOf [] = Unit {0}
+NumbersOf (row ∷ rows) = ((n p : ℕ) → row n p → n ≢ 0) × NumbersOf rows
+
+first-number : (rows : List Row) → NumbersOf rows → (n p : ℕ) → FirstOf rows n p → n ≢ 0
+first-number [] h n p r = absurd r
+first-number (row ∷ rows) h n p r = ⊎-elim (λ w. h .0 n p w) (λ w. first-number rows (h .1) n p (w .1)) r
+
+refusal-path : {m q n p : ℕ} → Refuses m q ≡ Refuses n p → _≡_ {A = Answer} (record { number = m; place = q; length = 0 }) (record { number = n; place = p; length = 0 })
+refusal-path e i = record { number = sym (refuses-number e) i; place = sym (refuses-place e) i; length = 0 }
+
+-- a call's answer is given exactly when its rows say; where it accepts, what it made has the length stated
+pub exactly : (v : Verdict) (rows : List Row) (made len : ℕ) → Decides v (FirstOf rows) → NumbersOf rows → (v ≡ Passes → made ≡ len) → Exactly rows len (answer v made)
+exactly Passes rows made len d z m =
+    record {
+      refused = λ n p h. (λ e. absurd (h (sym (ap (λ (a : Answer). a .number) e))), λ r. absurd (never (d n p .1 r)));
+      accepted = (λ e n p r. never (d n p .1 r), λ h. refl);
+      answer = λ e i. record { number = 0; place = 0; length = m refl i };
+    }
+exactly (Refuses m q) rows made len d z l =
+    let fires = d m q .0 refl in
+    record {
+      refused = λ n p h.
+          (λ e. d n p .0 (refuses-both (sym (ap (λ (a : Answer). a .number) e)) (sym (ap (λ (a : Answer). a .place) e))), λ r. refusal-path (d n p .1 r));
+      accepted = (λ e. absurd (first-number rows z m q fires e), λ h. absurd (h m q fires));
+      answer = λ e. absurd (first-number rows z m q fires e);
+    }
+
+-- and so is that of a call that writes, by its tests and that of the room
+pub exactly-written : (tests : List Verdict) (rows : List Row) (made buffer : List ℕ) (len : ℕ) → DecideAll (tests ++ (roomTest made buffer ∷ [])) rows
+    → NumbersOf rows → (((i : ℕ) → getD (tests ++ (roomTest made buffer ∷ [])) i Passes ≡ Passes) → length made ≡ len)
+    → Exactly rows len (written tests made buffer .answer)
+unfolding written
+exactly-written tests rows made buffer len d z m =
+    let ts = tests ++ (roomTest made buffer ∷ []) in
+    rw (settled-answer (firstRefusal ts) made buffer)
+    (exactly (firstRefusal ts) rows (length made) len (first-decides ts rows d) z (λ e. m (passed-exactly ts .0 e)))
