@@ -14,8 +14,9 @@ use Rattle.basis.specs.declared.Verdict.the-variants.{Passes, Refuses}
 use Rattle.basis.specs.First.{first}
 use Rattle.basis.specs.Answers.{refuseIf, refuseAtFirst, firstRefusal, answer, Outcome, settled}
 use Rattle.basis.proofs.First.{clash, first-hits, first-misses, first-is}
-use Rattle.basis.proofs.Answers.{never, passed-exactly}
+use Rattle.basis.proofs.Answers.{never}
 use Rattle.meaning.specs.Calls.{roomTest, written}
+use Rattle.demands.specs.Valid.{Each}
 use Rattle.demands.specs.Exactly.{Row, Nowhere, at, atLeast, numbered, FirstOf, Exactly}
 
 -- a test refuses exactly where its row does
@@ -60,6 +61,32 @@ refuses-place e = cc
 
 pub refuses-both : {m q n p : ℕ} → n ≡ m → p ≡ q → Refuses m q ≡ Refuses n p
 refuses-both e f = cc
+
+-- tests that all pass, one by one
+pub each-passes : (vs : List Verdict) → firstRefusal vs ≡ Passes → Each (λ v. v ≡ Passes) vs
+unfolding firstRefusal
+each-passes [] e = tt
+each-passes (Passes ∷ vs) e = (refl, each-passes vs e)
+each-passes (Refuses n p ∷ vs) e = absurd (never (sym e))
+
+pub passes-each : (vs : List Verdict) → Each (λ v. v ≡ Passes) vs → firstRefusal vs ≡ Passes
+unfolding firstRefusal
+passes-each [] h = refl
+passes-each (Passes ∷ vs) h = passes-each vs (h .1)
+passes-each (Refuses n p ∷ vs) h = absurd (never (sym (h .0)))
+
+pub passed-append : (vs us : List Verdict) → firstRefusal (vs ++ us) ≡ Passes → (firstRefusal vs ≡ Passes) × (firstRefusal us ≡ Passes)
+unfolding firstRefusal
+passed-append [] us e = (refl, e)
+passed-append (Passes ∷ vs) us e = passed-append vs us e
+passed-append (Refuses n p ∷ vs) us e = absurd (never (sym e))
+
+pub passed-if : (b : Bool) (n p : ℕ) → refuseIf b n p ≡ Passes → b ≡ false
+passed-if true n p e = absurd (never (sym e))
+passed-if false n p e = refl
+
+pub if-passed : (b : Bool) (n p : ℕ) → b ≡ false → refuseIf b n p ≡ Passes
+if-passed b n p e = rw e
 
 -- a test of a condition
 pub decide-if : (b : Bool) (number place : ℕ) (C : Type 0) → (b ≡ true → C) → (b ≡ false → C → ⊥) → Decides (refuseIf b number place) (at number place C)
@@ -128,10 +155,18 @@ exactly (Refuses m q) rows made len d z l =
 
 -- and so is that of a call that writes, by its tests and that of the room
 pub exactly-written : (tests : List Verdict) (rows : List Row) (made buffer : List ℕ) (len : ℕ) → DecideAll (tests ++ (roomTest made buffer ∷ [])) rows
-    → NumbersOf rows → (((i : ℕ) → getD (tests ++ (roomTest made buffer ∷ [])) i Passes ≡ Passes) → length made ≡ len)
+    → NumbersOf rows → (firstRefusal (tests ++ (roomTest made buffer ∷ [])) ≡ Passes → length made ≡ len)
     → Exactly rows len (written tests made buffer .answer)
 unfolding written
 exactly-written tests rows made buffer len d z m =
     let ts = tests ++ (roomTest made buffer ∷ []) in
     rw (settled-answer (firstRefusal ts) made buffer)
-    (exactly (firstRefusal ts) rows (length made) len (first-decides ts rows d) z (λ e. m (passed-exactly ts .0 e)))
+    (exactly (firstRefusal ts) rows (length made) len (first-decides ts rows d) z m)
+
+pub nonzero : {k n : ℕ} → n ≡ suc k → n ≢ 0
+nonzero c e = omega arith
+
+-- 8
+pub room-decides : (made buffer : List ℕ) (n : ℕ) → length made ≡ n → Decides (roomTest made buffer) (at 8 n (length buffer < n))
+room-decides made buffer n e =
+    rw e (decide-if (ltb (length buffer) n) 8 n (length buffer < n) (ltb-true (length buffer) n) (λ t l. clash (lt-ltb (length buffer) n l) t))

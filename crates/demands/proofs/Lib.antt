@@ -1,7 +1,12 @@
 pub mod Lists
+pub mod Blocks
 pub mod Rows
 pub mod Order
 pub mod Exactly
 pub mod Reports
 pub mod WellFormed
 pub mod ReportCalls
+pub mod RegisterTests
+pub mod Registers
+pub mod Calculation
+pub mod Calculated

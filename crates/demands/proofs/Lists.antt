@@ -110,3 +110,18 @@ pub any-map : {A B : Type 0} (test : B → Bool) (f : A → B) (xs : List A) →
 unfolding any
 any-map test f [] = refl
 any-map test f (x ∷ xs) = ap (λ (b : Bool). test (f x) || b) (any-map test f xs)
+
+pub any-append : {A : Type 0} (test : A → Bool) (xs ys : List A) → any test (xs ++ ys) ≡ false → (any test xs ≡ false) × (any test ys ≡ false)
+unfolding any
+any-append test [] ys e = (refl, e)
+any-append test (x ∷ xs) ys e =
+    let h = or-false (test x) (any test (xs ++ ys)) e in
+    let r = any-append test xs ys (h .1) in
+    (false-or (test x) (any test xs) (h .0) (r .0), r .1)
+
+pub append-any : {A : Type 0} (test : A → Bool) (xs ys : List A) → any test xs ≡ false → any test ys ≡ false → any test (xs ++ ys) ≡ false
+unfolding any
+append-any test [] ys e f = f
+append-any test (x ∷ xs) ys e f =
+    let h = or-false (test x) (any test xs) e in
+    false-or (test x) (any test (xs ++ ys)) (h .0) (append-any test xs ys (h .1) f)

@@ -29,7 +29,7 @@ use Rattle.demands.specs.Exactly.{Row, Nowhere, at, FirstOf, Exactly}
 use Rattle.demands.specs.Refusals.{NoReport, HasNumber, InBoth, roomRow, combinationRows, removalRows, checkRows, textLength, textRows}
 use Rattle.demands.proofs.Lists.{not-both, any-some, some-any, any-map, each-at, at-each}
 use Rattle.demands.proofs.Order.{each-map, each-append, ascending-each, ascending-distinct, ascending-lt, sorted-each, sorted-ascending, distinct-append}
-use Rattle.demands.proofs.Exactly.{Decides, DecideAll, passes-nowhere, first-decides, exactly, exactly-written, decide-if, refuses-number, refuses-place, refuses-both}
+use Rattle.demands.proofs.Exactly.{Decides, DecideAll, each-passes, passes-nowhere, first-decides, exactly, exactly-written, nonzero, room-decides, decide-if, refuses-number, refuses-place, refuses-both}
 use Rattle.demands.proofs.Reports.{noEntry, report-right, length-report}
 use Rattle.demands.proofs.WellFormed.{formed, reportable, report-again, count-is, entry-at}
 
@@ -191,19 +191,11 @@ both-make xs zs v w a l =
       each = sorted-each entryNumber Entered (xs ++ zs) (each-append Entered xs zs (v .each) (w .each));
     }
 
--- 8
-pub room-decides : (made buffer : List ℕ) (n : ℕ) → length made ≡ n → Decides (roomTest made buffer) (at 8 n (length buffer < n))
-room-decides made buffer n e =
-    rw e (decide-if (ltb (length buffer) n) 8 n (length buffer < n) (ltb-true (length buffer) n) (λ t l. clash (lt-ltb (length buffer) n l) t))
-
 -- 12
 pub count-decides : (one other : List ℕ) → Decides (countTest one other) (at 12 (entryCount one + entryCount other) (mostSources < entryCount one + entryCount other))
 count-decides one other =
     let n = entryCount one + entryCount other in
     decide-if (ltb mostSources n) 12 n (mostSources < n) (ltb-true mostSources n) (λ t l. clash (lt-ltb mostSources n l) t)
-
-pub nonzero : {k n : ℕ} → n ≡ suc k → n ≢ 0
-nonzero c e = omega arith
 
 nowhere-at : {number place : ℕ} {C : Type 0} → Nowhere (at number place C) → C → ⊥
 nowhere-at {number} {place} h c = h number place (refl, refl, c)
@@ -244,7 +236,7 @@ module _ (one other : List ℕ) (h : Bytes one) (g : Bytes other) where
       (combinationRows one other (length report)) (reportBytes (reportYear one) (bothEntries one other)) report (reportLength (entryCount one + entryCount other))
       (combination-decides report)
       (λ n p r. nonzero (r .0), (λ n p r. nonzero (r .0), (λ n p r. nonzero (r .0), (λ n p r. nonzero (r .0), (λ n p r. nonzero (r .0), (λ n p r. nonzero (r .0), tt))))))
-      (λ e. both-length (e 0) (e 1) (e 3) (e 4))
+      (λ e. let p = each-passes _ e in both-length (p .0) (p .1 .0) (p .1 .1 .1 .0) (p .1 .1 .1 .1 .0))
 
 -- Removal
 pub without-each : (P : Entry → Type 0) (x : ℕ) (es : List Entry) → Each P es → Each P (without (numbered x) es)
@@ -327,7 +319,7 @@ module _ (report : List ℕ) (number : ℕ) (h : Bytes report) where
       (form-decides report 1 h, λ p. (absent-decides report number h (passed-form report 1 p), λ a.
       (room-decides (reportBytes (reportYear report) (without (numbered number) (entriesOf report))) result (reportLength (entryCount report - 1)) (rest-length p a), λ _. tt)))
       (λ n p r. nonzero (r .0), (λ n p r. nonzero (r .0), (λ n p r. nonzero (r .0), tt)))
-      (λ e. rest-length (e 0) (e 1))
+      (λ e. let p = each-passes _ e in rest-length (p .0) (p .1 .0))
 
 first-decides-one : (v : Verdict) (row : Row) → Decides v row → Decides v (FirstOf (row ∷ []))
 first-decides-one v row d n p = (λ e. inl (d n p .0 e), λ r. ⊎-elim (λ q. d n p .1 q) (λ q. absurd (q .1)) r)

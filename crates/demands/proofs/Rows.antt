@@ -38,13 +38,20 @@ unfolding startsWith
 tag-starts [] xs = refl
 tag-starts (c ∷ t) xs = true-and (eqb c c) (startsWith t (t ++ xs)) (eq-eqb c c refl) (tag-starts t xs)
 
-pub starts-tag : (t bs : List ℕ) → length t ≤ length bs → startsWith t bs ≡ true → take (length t) bs ≡ t
+pub starts-tag : (t bs : List ℕ) → Each (λ c. 0 < c) t → startsWith t bs ≡ true → take (length t) bs ≡ t
 unfolding startsWith
-starts-tag [] bs l e = refl
-starts-tag (c ∷ t) [] l e = absurd (not-suc-le-zero l)
-starts-tag (c ∷ t) (b ∷ bs) l e =
+starts-tag [] bs z e = refl
+starts-tag (c ∷ t) [] z e =
+    let h : (eqb 0 c ≡ true) × (startsWith t [] ≡ true) = and-true (eqb 0 c) (startsWith t []) e in
+    let f : 0 ≡ c = eqb-true 0 c (h .0) in
+    absurd (omega (arith, z .0))
+starts-tag (c ∷ t) (b ∷ bs) z e =
     let h : (eqb b c ≡ true) × (startsWith t bs ≡ true) = and-true (eqb b c) (startsWith t bs) e in
-    rw (eqb-true b c (h .0), starts-tag t bs (le-of-suc-le-suc l) (h .1))
+    rw (eqb-true b c (h .0), starts-tag t bs (z .1) (h .1))
+
+pub taken-starts : (t bs : List ℕ) → take (length t) bs ≡ t → startsWith t bs ≡ true
+taken-starts t bs e =
+    ap (startsWith t) (sym (take-append-drop (length t) bs) ∙ ap (λ (l : List ℕ). l ++ drop (length t) bs) e) ∙ tag-starts t (drop (length t) bs)
 
 -- the numbers of a record's widths, one behind another
 unfoldable pub unpacked : List ℕ → List ℕ → List ℕ

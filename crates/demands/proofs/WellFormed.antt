@@ -159,7 +159,7 @@ module _ (b : List ℕ) (h : Bytes b) (f : Formed b) where
   long = sym (f .header .filled)
 
   tag-again : take 4 b ≡ reportTag
-  tag-again = starts-tag reportTag b (omega (arith, long)) (f .header .tag)
+  tag-again = starts-tag reportTag b (omega arith) (f .header .tag)
 
   numbers-again : unpacked headerWidths (drop 4 b) ≡ headerNumbers (reportYear b) (length (entriesOf b))
   unfolding unpacked

@@ -1,11 +1,13 @@
 -- What is said of entries and of lists in the statements. Assumes nothing.
 use mathlib.Core.List.{List, [], _∷_}
+use mathlib.Core.Bool.{false}
 use mathlib.Core.Logic.{_≢_}
 use mathlib.Core.Path.{_≡_}
 use Prim.Native.Nat.{ℕ, _≤_, _<_, _^_}
-use lib.ListN.{length}
+use lib.ListN.{length, take}
+use Rattle.basis.specs.Bytes.{numberAt, ascii}
 use Rattle.meaning.specs.Masses.{gasCount, equivalent, limit}
-use Rattle.meaning.specs.Register.{mostSources}
+use Rattle.meaning.specs.Register.{registerLayout, yearOf, sourceCount, mostSources, lineCount, mostLines, nameBytes, mostNameBytes, sourcesAt, linesAt, namesAt, wholeLength, misplaced, lineStart, nameStart}
 use Rattle.meaning.specs.Report.{Entry}
 
 -- P of each of a list
@@ -40,3 +42,21 @@ pub record Reportable (year : ℕ) (es : List Entry) : Type 0 where
   pub count : length es ≤ mostSources
   pub order : Ascending entryNumber 0 es
   pub each : Each Entered es
+
+-- A register that is laid right: 1 and 2 have nothing to say, and of 3 nothing that goes by where entries, lines and names stand
+pub record LaidRight (b : List ℕ) : Type 0 where
+  pub long : sourcesAt ≤ length b
+  pub tag : take 4 b ≡ ascii "GREG"
+  pub layout : numberAt 2 b 4 ≡ registerLayout
+  pub year : (1990 ≤ yearOf b) × (yearOf b ≤ 2100)
+  pub sources : sourceCount b ≤ mostSources
+  pub lines : lineCount b ≤ mostLines
+  pub names : nameBytes b ≤ mostNameBytes
+  pub atSources : numberAt 4 b 16 ≡ sourcesAt
+  pub atLines : numberAt 4 b 20 ≡ linesAt (sourceCount b)
+  pub atNames : numberAt 4 b 24 ≡ namesAt (sourceCount b) (lineCount b)
+  pub whole : numberAt 4 b 28 ≡ wholeLength (sourceCount b) (lineCount b) (nameBytes b)
+  pub filled : length b ≡ wholeLength (sourceCount b) (lineCount b) (nameBytes b)
+  pub placed : (i : ℕ) → i < sourceCount b → misplaced b i ≡ false
+  pub lastLine : lineStart b (sourceCount b) ≡ lineCount b
+  pub lastName : nameStart b (sourceCount b) ≡ nameBytes b

@@ -1,0 +1,220 @@
+-- What calculation makes of sources that nothing refuses, and that it refuses exactly when the table says. Assumes nothing.
+use mathlib.Core.Bool.{Bool, true, false, cond, _||_, _&&_, not}
+use mathlib.Core.List.{List, [], _∷_, _++_, map, append-assoc}
+use mathlib.Core.Logic.{_⊎_, inl, inr, ⊎-elim, _≢_}
+use mathlib.Core.Path.{_≡_, refl, sym, ap, _∙_}
+use Prim.Native.Nat.{ℕ, zero, suc, _+_, _*_, _^_, _≤_, _<_}
+use native.Mathlib.Nat.{zero-add}
+use native.Mathlib.Omega.{arith}
+use lib.Dec.{eqb, ltb, leb}
+use lib.ListN.{length, getD, length-map, List·getD-map}
+use borrow.Author.Tests.{ltb-true, ltb-false, leb-true, eqb-true, eqb-false, le-ltb, eq-eqb, not-true, not-false}
+use Rattle.basis.specs.declared.Verdict.{Verdict}
+use Rattle.basis.specs.declared.Verdict.the-variants.{Passes, Refuses}
+use Rattle.basis.specs.Bytes.{numberAt, Bytes}
+use Rattle.basis.specs.Lists.{countUp, any, joined}
+use Rattle.basis.specs.Answers.{refuseIf, refuseAtFirst, firstRefusal, answer, Outcome}
+use Rattle.basis.specs.First.{first}
+use Rattle.basis.proofs.First.{clash, first-misses, first-end}
+use Rattle.basis.proofs.Answers.{passed-at-all}
+use Rattle.basis.proofs.Lists.{length-countUp, length-sortedBy}
+use Rattle.meaning.specs.declared.Decoded.{Decoded}
+use Rattle.meaning.specs.declared.Decoded.the-variants.{Good, Bad}
+use Rattle.meaning.specs.Methods.{within, listed, isBad}
+use Rattle.meaning.specs.Masses.{gasCount, gases, belowZero, mass, masses, equivalent, limit}
+use Rattle.meaning.specs.Register.{Source, yearOf, sourceCount, mostSources, sourcesAt, sourceLength, sourceEntry, numberIn, sourceAt, sourcesOf, unsound, decodedLines, registerTests}
+use Rattle.meaning.specs.Report.{Entry, entryOf, inOrder, reportBytes, reportLength}
+use Rattle.meaning.specs.Calls.{roomTest, badLine, lineTest, massFault, faultAt, massTest, entriesFor, calculated}
+use Rattle.meaning.proofs.Laws.{one-entry-each}
+use Rattle.demands.specs.Valid.{Each, Entered, Distinct, entryNumber, Reportable, LaidRight}
+use Rattle.demands.specs.Exactly.{Exactly}
+use Rattle.demands.specs.Refusals.{registerRows, calculationRows}
+use Rattle.demands.proofs.Lists.{and-true, or-false, not-both, any-some, some-any, any-append, append-any, each-at, at-each}
+use Rattle.demands.proofs.Order.{sorted-each, sorted-ascending}
+use Rattle.demands.proofs.Rows.{numberAt-fits, bytes-drop}
+use Rattle.demands.proofs.Exactly.{passed-if, if-passed, each-passes, decide-append, NumbersOf, passed-append, exactly-written, nonzero, room-decides}
+use Rattle.demands.proofs.Reports.{length-report}
+use Rattle.demands.proofs.RegisterTests.{or-either, noSource, sourceNumber, length-sources, source-at, register-decides}
+use Rattle.demands.proofs.Registers.{Passed, passed}
+use Rattle.demands.proofs.Calculation.{no-fault, line-decides, mass-decides}
+
+-- a source that nothing refuses, with a number of four bytes
+pub record Calculable (s : Source) : Type 0 where
+  pub number : s .number < 2 ^ 32
+  pub sound : unsound s ≡ false
+  pub good : any isBad (decodedLines s) ≡ false
+  pub kept : massFault s ≡ 0
+
+-- "methods 1 to 6": those of the pairs listed
+method-listed : (m p : ℕ) → listed m p ≡ true → (1 ≤ m) × (m ≤ 6)
+method-listed m p e =
+    ⊎-elim (λ h. four (and-true (eqb m 1 || eqb m 2 || eqb m 3 || eqb m 5) (eqb p 0) h .0)) (λ h. two (and-true (eqb m 4 || eqb m 6) (within 1 6 p) h .0))
+    (or-either ((eqb m 1 || eqb m 2 || eqb m 3 || eqb m 5) && eqb p 0) ((eqb m 4 || eqb m 6) && within 1 6 p) e)
+  where
+    is : (k : ℕ) → 1 ≤ k → k ≤ 6 → eqb m k ≡ true → (1 ≤ m) × (m ≤ 6)
+    is k a b h = omega (arith, eqb-true m k h)
+    two : eqb m 4 || eqb m 6 ≡ true → (1 ≤ m) × (m ≤ 6)
+    two h = ⊎-elim (is 4 (omega arith) (omega arith)) (is 6 (omega arith) (omega arith)) (or-either (eqb m 4) (eqb m 6) h)
+    four : eqb m 1 || eqb m 2 || eqb m 3 || eqb m 5 ≡ true → (1 ≤ m) × (m ≤ 6)
+    four h =
+        ⊎-elim
+        (λ h. ⊎-elim (λ h. ⊎-elim (is 1 (omega arith) (omega arith)) (is 2 (omega arith) (omega arith)) (or-either (eqb m 1) (eqb m 2) h)) (is 3 (omega arith) (omega arith)) (or-either (eqb m 1 || eqb m 2) (eqb m 3) h))
+        (is 5 (omega arith) (omega arith)) (or-either (eqb m 1 || eqb m 2 || eqb m 3) (eqb m 5) h)
+
+-- what is sound has a number and a method of the table
+sound-parts : (s : Source) → unsound s ≡ false → (0 < s .number) × (listed (s .method) (s .parameter) ≡ true)
+unfolding unsound
+sound-parts s e =
+    let c1 = or-false _ _ e in
+    let c2 = or-false _ _ (c1 .0) in
+    let c3 = or-false _ _ (c2 .0) in
+    let c4 = or-false _ _ (c3 .0) in
+    let z : s .number ≡ 0 → ⊥ = eqb-false (s .number) 0 (c4 .0) in
+    (omega arith, not-false _ (c4 .1))
+
+kept-within : (s : Source) → massFault s ≡ 0 → equivalent (masses (decodedLines s)) ≤ limit
+unfolding massFault
+kept-within s e = by (belowZero (decodedLines s)) (ltb limit (equivalent (masses (decodedLines s)))) refl e
+  where
+    by : (c d : Bool) → ltb limit (equivalent (masses (decodedLines s))) ≡ d → _≡_ {A = ℕ} (cond c 6 (cond d 7 0)) 0 → equivalent (masses (decodedLines s)) ≤ limit
+    by true d q h = absurd (omega arith)
+    by false true q h = absurd (omega arith)
+    by false false q h = ltb-false _ _ q
+
+pub entered : (s : Source) → Calculable s → Entered (entryOf s)
+unfolding entryOf masses
+entered s c =
+    record {
+      number = c .number;
+      method = method-listed (s .method) (s .parameter) (sound-parts s (c .sound) .1);
+      gases = length-map gases (mass (decodedLines s)) ∙ length-countUp 0 gasCount;
+      within = kept-within s (c .kept);
+    }
+
+each-entered : (ss : List Source) → Each Calculable ss → Each Entered (map entryOf ss)
+each-entered [] h = tt
+each-entered (s ∷ ss) h = (entered s (h .0), each-entered ss (h .1))
+
+each-numbered : (ss : List Source) → Each Calculable ss → Each (λ e. 0 < entryNumber e) (map entryOf ss)
+unfolding entryOf
+each-numbered [] h = tt
+each-numbered (s ∷ ss) h = (sound-parts s (h .0 .sound) .0, each-numbered ss (h .1))
+
+each-of : (P : ℕ → Type 0) (ss : List Source) → Each (λ s. P (sourceNumber s)) ss → Each (λ e. P (entryNumber e)) (map entryOf ss)
+unfolding entryOf
+each-of P [] h = tt
+each-of P (s ∷ ss) h = (h .0, each-of P ss (h .1))
+
+pub entries-distinct : (ss : List Source) → Distinct sourceNumber ss → Distinct entryNumber (map entryOf ss)
+unfolding entryOf
+entries-distinct [] h = tt
+entries-distinct (s ∷ ss) h = (each-of (λ n. s .number ≢ n) ss (h .0), entries-distinct ss (h .1))
+
+-- sources that nothing refuses, different in number and not too many, make a report
+pub sources-make : (y : ℕ) (ss : List Source) → (1990 ≤ y) × (y ≤ 2100) → length ss ≤ mostSources → Each Calculable ss → Distinct sourceNumber ss → Reportable y (entriesFor ss)
+unfolding entriesFor inOrder
+sources-make y ss r n c d =
+    record {
+      inRange = r;
+      count = rw (length-sortedBy entryNumber (map entryOf ss), length-map ss entryOf) n;
+      order = sorted-ascending entryNumber 0 (map entryOf ss) (each-numbered ss c) (entries-distinct ss d);
+      each = sorted-each entryNumber Entered (map entryOf ss) (each-entered ss c);
+    }
+
+-- lines that pass are good, source by source, and sums that pass are kept
+any-joined : {A B : Type 0} (test : B → Bool) (f : A → List B) (xs : List A) → any test (joined (map f xs)) ≡ false → Each (λ x. any test (f x) ≡ false) xs
+unfolding joined any
+any-joined test f [] e = tt
+any-joined test f (x ∷ xs) e = let h = any-append test (f x) (joined (map f xs)) e in (h .0, any-joined test f xs (h .1))
+
+joined-any : {A B : Type 0} (test : B → Bool) (f : A → List B) (xs : List A) → Each (λ x. any test (f x) ≡ false) xs → any test (joined (map f xs)) ≡ false
+unfolding joined any
+joined-any test f [] h = refl
+joined-any test f (x ∷ xs) h = append-any test (f x) (joined (map f xs)) (h .0) (joined-any test f xs (h .1))
+
+pub lines-good : (ss : List Source) → lineTest ss ≡ Passes → Each (λ s. any isBad (decodedLines s) ≡ false) ss
+unfolding lineTest badLine
+lines-good ss e =
+    let ls = joined (map decodedLines ss) in
+    any-joined isBad decodedLines ss (not-both (any isBad ls) (λ t. let r = any-some isBad Bad ls t in clash (r .2) (passed-at-all 5 (badLine ls) (length ls) .0 e (r .0) (r .1))))
+
+pub good-lines : (ss : List Source) → Each (λ s. any isBad (decodedLines s) ≡ false) ss → lineTest ss ≡ Passes
+unfolding lineTest badLine
+good-lines ss h =
+    let ls = joined (map decodedLines ss) in
+    passed-at-all 5 (badLine ls) (length ls) .1
+    (λ i l. not-both (badLine ls i) (λ t. clash (some-any isBad Bad ls i l t) (joined-any isBad decodedLines ss h)))
+
+fault-zero : (ss : List Source) (i : ℕ) → massFault (getD ss i noSource) ≡ getD (map massFault ss) i 0
+fault-zero ss i = sym (List·getD-map massFault ss i noSource) ∙ ap (getD (map massFault ss) i) no-fault
+
+pub sums-kept : (ss : List Source) → massTest ss ≡ Passes → Each (λ s. massFault s ≡ 0) ss
+unfolding massTest faultAt
+sums-kept ss e =
+    let fs = map massFault ss in
+    let q : length fs ≡ length ss = length-map ss massFault in
+    let n = ltb-false (first (faultAt fs) (length fs)) (length fs) (passed-if _ _ _ e) in
+    at-each (λ s. massFault s ≡ 0) ss noSource
+    (λ i l. fault-zero ss i ∙ eqb-true (getD fs i 0) 0 (not-false (eqb (getD fs i 0) 0) (first-misses (faultAt fs) (length fs) i (omega arith))))
+
+pub kept-sums : (ss : List Source) → Each (λ s. massFault s ≡ 0) ss → massTest ss ≡ Passes
+unfolding massTest faultAt
+kept-sums ss h =
+    let fs = map massFault ss in
+    let q : length fs ≡ length ss = length-map ss massFault in
+    let e : first (faultAt fs) (length fs) ≡ length fs =
+          first-end (faultAt fs) (length fs)
+          (λ i l. ap not (eq-eqb (getD fs i 0) 0 (sym (fault-zero ss i) ∙ each-at (λ s. massFault s ≡ 0) ss noSource h i (omega arith)))) in
+    if-passed (ltb (first (faultAt fs) (length fs)) (length fs)) _ _ (rw e (le-ltb (length fs) (length fs) (omega arith)))
+
+-- the tests of calculation behind those of the register
+each-calculable : (ss : List Source) → Each (λ s. s .number < 2 ^ 32) ss → Each (λ s. unsound s ≡ false) ss
+    → Each (λ s. any isBad (decodedLines s) ≡ false) ss → Each (λ s. massFault s ≡ 0) ss → Each Calculable ss
+each-calculable [] n u g k = tt
+each-calculable (s ∷ ss) n u g k = (record { number = n .0; sound = u .0; good = g .0; kept = k .0 }, each-calculable ss (n .1) (u .1) (g .1) (k .1))
+
+module _ (b : List ℕ) (h : Bytes b) where
+  number-fits : (i : ℕ) → i < sourceCount b → sourceAt b i .number < 2 ^ 32
+  unfolding sourceAt
+  number-fits i l = numberAt-fits 4 (sourceEntry b i) 0 (bytes-drop (sourcesAt + sourceLength * i) b h)
+
+  pub calculable : Passed b → lineTest (sourcesOf b) ≡ Passes → massTest (sourcesOf b) ≡ Passes → Each Calculable (sourcesOf b)
+  calculable p l m =
+      let n = length-sources b in
+      each-calculable (sourcesOf b)
+      (at-each (λ s. s .number < 2 ^ 32) (sourcesOf b) noSource (λ i q. let r : i < sourceCount b = omega arith in rw (source-at b i r) (number-fits i r)))
+      (at-each (λ s. unsound s ≡ false) (sourcesOf b) noSource (λ i q. let r : i < sourceCount b = omega arith in rw (source-at b i r) (p .sound i r)))
+      (lines-good (sourcesOf b) l)
+      (sums-kept (sourcesOf b) m)
+
+  pub register-makes : Passed b → Each Calculable (sourcesOf b) → Reportable (yearOf b) (entriesFor (sourcesOf b))
+  register-makes p c = sources-make (yearOf b) (sourcesOf b) (p .laid .year) (rw (length-sources b) (p .laid .sources)) c (p .once)
+
+  made-length : Passed b → Each Calculable (sourcesOf b) → length (reportBytes (yearOf b) (entriesFor (sourcesOf b))) ≡ reportLength (sourceCount b)
+  made-length p c =
+      length-report (yearOf b) (entriesFor (sourcesOf b)) (register-makes p c) ∙ ap reportLength (one-entry-each (sourcesOf b) .1 ∙ length-sources b)
+
+  pub calculation-exactly : (report : List ℕ) → Exactly (calculationRows b (length report)) (reportLength (sourceCount b)) (calculated b report .answer)
+  unfolding calculated
+  calculation-exactly report =
+      let ss = sourcesOf b in
+      let made = reportBytes (yearOf b) (entriesFor ss) in
+      let tail = lineTest ss ∷ massTest ss ∷ roomTest made report ∷ [] in
+      let e = append-assoc (registerTests b) (lineTest ss ∷ massTest ss ∷ []) (roomTest made report ∷ []) in
+      exactly-written (registerTests b ++ (lineTest ss ∷ massTest ss ∷ [])) (calculationRows b (length report)) made report (reportLength (sourceCount b))
+      (rw e
+      (decide-append (registerTests b) tail (registerRows b) _ (register-decides b)
+      (λ p. let q = passed b p in
+      (line-decides b (q .laid), λ l. (mass-decides b, λ m. (room-decides made report (reportLength (sourceCount b)) (made-length q (calculable q l m)), λ _. tt))))))
+      numbers
+      (λ p. let r = passed-append (registerTests b) tail (rw e at p) in
+      let q = passed b (r .0) in
+      let t = each-passes tail (r .1) in
+      made-length q (calculable q (t .0) (t .1 .0)))
+    where
+      numbers : NumbersOf (calculationRows b (length report))
+      numbers =
+          (λ n p r. nonzero (r .0), (λ n p r. nonzero (r .0), (λ n p r. nonzero (r .0), (λ n p r. nonzero (r .0), (λ n p r. nonzero (r .0), (λ n p r. nonzero (r .0),
+          (λ n p r. nonzero (r .0), (λ n p r. nonzero (r .0), (λ n p r. nonzero (r .0), (λ n p r. nonzero (r .0), (λ n p r. nonzero (r .0),
+          (λ n p r. nonzero (r .1 .0), (λ n p r. nonzero (r .0), (λ n p r. nonzero (r .1 .0), (λ n p r. nonzero (r .1 .0),
+          (λ n p r. ⊎-elim (λ f. nonzero (f .0)) (λ f. nonzero (f .0)) (r .1), (λ n p r. nonzero (r .0), tt)))))))))))))))))

@@ -1,0 +1,167 @@
+-- Calculation refuses exactly when the table says. Assumes nothing.
+use mathlib.Core.Bool.{Bool, true, false, cond, _||_, _&&_, not}
+use mathlib.Core.List.{List, [], _∷_, _++_, map, map-map}
+use mathlib.Core.Logic.{_⊎_, inl, inr, ⊎-elim, _≢_}
+use mathlib.Core.Path.{_≡_, refl, sym, ap, _∙_}
+use Prim.Native.Nat.{ℕ, zero, suc, _+_, _*_, _-_, _^_, _≤_, _<_}
+use native.Mathlib.Nat.{add-zero, zero-add, sub-zero}
+use native.Mathlib.Numerals.{add-one}
+use native.Mathlib.Omega.{arith}
+use lib.Dec.{eqb, ltb, leb}
+use lib.ListN.{length, getD, take, drop, length-map, length-append, List·getD-map}
+use borrow.Author.Tests.{ltb-true, ltb-false, leb-true, leb-false, eqb-true, eqb-false, lt-ltb, le-ltb, le-leb, lt-leb, eq-eqb, ne-eqb, not-true, not-false}
+use Rattle.basis.specs.declared.Verdict.{Verdict}
+use Rattle.basis.specs.declared.Verdict.the-variants.{Passes, Refuses}
+use Rattle.basis.specs.Bytes.{numberAt, Bytes}
+use Rattle.basis.specs.Lists.{sum, countUp, any, joined}
+use Rattle.basis.specs.First.{first}
+use Rattle.basis.specs.Answers.{refuseIf, refuseAtFirst, firstRefusal}
+use Rattle.basis.proofs.First.{clash}
+use Rattle.basis.proofs.Answers.{passed-at-all}
+use Rattle.meaning.specs.declared.Decoded.{Decoded}
+use Rattle.meaning.specs.declared.Decoded.the-variants.{Good, Bad}
+use Rattle.meaning.specs.Methods.{decoded, isBad}
+use Rattle.meaning.specs.Masses.{carbonDioxide, added, taken, belowZero, rounded, mass, masses, weighed, equivalent, limit}
+use Rattle.meaning.specs.Register.{Source, sourceCount, lineCount, nameBytes, lineAt, sourceEntry, numberIn, methodIn, parameterIn, firstLineIn, lineCountIn, nameLengthIn, nameOffsetIn, sourceAt, sourcesOf, lineStart, nameStart, misplaced, decodedLines}
+use Rattle.meaning.specs.Calls.{badLine, lineTest, massFault, faultAt, massTest}
+use Rattle.demands.specs.Valid.{Each, LaidRight}
+use Rattle.demands.specs.Exactly.{Row, at, atLeast, numbered}
+use Rattle.demands.specs.Refusals.{BadLine, BelowZero, AboveLimit, MassFault}
+use Rattle.demands.proofs.Lists.{and-true, or-false, not-both, getD-counted}
+use Rattle.demands.proofs.Blocks.{Block, Blocks, blocks-length, blocks-find, blocks-at}
+use Rattle.demands.proofs.Exactly.{Decides, DecideAll, decide-if, decide-first, decide-append}
+use Rattle.demands.proofs.RegisterTests.{decide-at-first, noSource, length-sources, source-at}
+
+-- where an entry stands
+pub record Placed (b : List ℕ) (i : ℕ) : Type 0 where
+  pub line : firstLineIn (sourceEntry b i) ≡ lineStart b i
+  pub name : nameOffsetIn (sourceEntry b i) ≡ nameStart b i
+  pub lines : firstLineIn (sourceEntry b i) + lineCountIn (sourceEntry b i) ≤ lineCount b
+  pub names : nameOffsetIn (sourceEntry b i) + nameLengthIn (sourceEntry b i) ≤ nameBytes b
+
+pub placed : (b : List ℕ) (i : ℕ) → misplaced b i ≡ false → Placed b i
+unfolding misplaced
+placed b i e =
+    let c1 = or-false _ _ e in
+    let c2 = or-false _ _ (c1 .0) in
+    let c3 = or-false _ _ (c2 .0) in
+    record {
+      line = eqb-true _ _ (not-false _ (c3 .0));
+      name = eqb-true _ _ (not-false _ (c3 .1));
+      lines = ltb-false _ _ (c2 .1);
+      names = ltb-false _ _ (c1 .1);
+    }
+
+module _ (b : List ℕ) (l : LaidRight b) where
+  standing : (i : ℕ) → i < sourceCount b → Placed b i
+  standing i m = placed b i (l .placed i m)
+
+  next-line : (i : ℕ) → i < sourceCount b → lineStart b (i + 1) ≡ lineStart b i + lineCountIn (sourceEntry b i)
+  unfolding lineStart
+  next-line i m = rw (add-one i) (ap (λ (x : ℕ). x + lineCountIn (sourceEntry b i)) (standing i m .line))
+
+  readAs : ℕ → ℕ → Decoded
+  readAs i j = decoded (methodIn (sourceEntry b i)) (parameterIn (sourceEntry b i)) (lineAt b j)
+
+  line-blocks : Blocks (λ i. decodedLines (sourceAt b i)) (lineStart b) (λ i. lineCountIn (sourceEntry b i)) readAs 0 (sourceCount b)
+  unfolding decodedLines sourceAt readAs
+  line-blocks i p m =
+      let r = sourceEntry b i in
+      record {
+        is =
+          map-map (decoded (methodIn r) (parameterIn r)) (lineAt b) (countUp (firstLineIn r) (lineCountIn r))
+          ∙ ap (λ (x : ℕ). map (readAs i) (countUp x (lineCountIn r))) (standing i (omega arith) .line);
+        next = next-line i (omega arith);
+      }
+
+  allLines : List Decoded
+  allLines = joined (map decodedLines (sourcesOf b))
+
+  lines-are : allLines ≡ joined (map (λ i. decodedLines (sourceAt b i)) (countUp 0 (sourceCount b)))
+  unfolding allLines sourcesOf
+  lines-are = ap joined (map-map decodedLines (sourceAt b) (countUp 0 (sourceCount b)))
+
+  length-lines : length allLines ≡ lineCount b
+  unfolding lineStart
+  length-lines =
+      ap length lines-are
+      ∙ sym (add-zero _)
+      ∙ blocks-length (λ i. decodedLines (sourceAt b i)) (lineStart b) (λ i. lineCountIn (sourceEntry b i)) readAs (sourceCount b) 0 line-blocks
+      ∙ ap (lineStart b) (zero-add (sourceCount b))
+      ∙ l .lastLine
+
+  line-is : (i j : ℕ) → i < sourceCount b → firstLineIn (sourceEntry b i) ≤ j → j < firstLineIn (sourceEntry b i) + lineCountIn (sourceEntry b i)
+      → getD allLines j Bad ≡ readAs i j
+  unfolding lineStart
+  line-is i j m p q =
+      let e = standing i m .line in
+      ap (λ (xs : List Decoded). getD xs j Bad) lines-are
+      ∙ ap (λ (x : ℕ). getD (joined (map (λ i. decodedLines (sourceAt b i)) (countUp 0 (sourceCount b)))) x Bad) (sym (sub-zero j))
+      ∙ blocks-at (λ i. decodedLines (sourceAt b i)) (lineStart b) (λ i. lineCountIn (sourceEntry b i)) readAs Bad (sourceCount b) 0 i j line-blocks
+      (omega arith) (omega arith) (omega arith) (omega arith)
+
+  line-of : (j : ℕ) → j < lineCount b
+      → (i : ℕ) × (i < sourceCount b) × (firstLineIn (sourceEntry b i) ≤ j) × (j < firstLineIn (sourceEntry b i) + lineCountIn (sourceEntry b i))
+  unfolding lineStart
+  line-of j m =
+      let t : lineStart b (0 + sourceCount b) ≡ lineCount b = ap (lineStart b) (zero-add (sourceCount b)) ∙ l .lastLine in
+      let r = blocks-find (λ i. decodedLines (sourceAt b i)) (lineStart b) (λ i. lineCountIn (sourceEntry b i)) readAs (sourceCount b) 0 j line-blocks (omega arith) (omega arith) in
+      let n : r .0 < sourceCount b = omega (arith, r .2) in
+      let e = standing (r .0) n .line in
+      (r .0, n, omega (arith, r .3), omega (arith, r .4))
+
+  bad-is : (d : Decoded) → isBad d ≡ true → d ≡ Bad
+  bad-is (Good x) e = absurd (clash e refl)
+  bad-is Bad e = refl
+
+  pub line-decides : Decides (lineTest (sourcesOf b)) (atLeast (lineCount b) (numbered 5 (BadLine b)))
+  unfolding lineTest badLine allLines readAs
+  line-decides =
+      rw length-lines
+      (decide-at-first 5 (badLine allLines) (lineCount b) (BadLine b)
+      (λ j m e. let r = line-of j m in (r .0, r .1, r .2, r .3, sym (line-is (r .0) j (r .1) (r .2) (r .3)) ∙ bad-is (getD allLines j Bad) e))
+      (λ j m r. ap isBad (line-is (r .0) j (r .1) (r .2) (r .3) ∙ r .4)))
+
+-- 6 and 7: what a source is refused for
+abbrev pub Fault : ℕ → Source → Type 0
+Fault n s = ((n ≡ 6) × BelowZero s) ⊎ ((n ≡ 7) × (BelowZero s → ⊥) × AboveLimit s)
+
+abbrev picked : Bool → Bool → ℕ
+picked c d = cond c 6 (cond d 7 0)
+
+fault-is : (s : Source) → massFault s ≢ 0 → Fault (massFault s) s
+unfolding massFault belowZero
+fault-is s h = by (belowZero (decodedLines s)) refl (ltb limit (equivalent (masses (decodedLines s)))) refl h
+  where
+    by : (c : Bool) → belowZero (decodedLines s) ≡ c → (d : Bool) → ltb limit (equivalent (masses (decodedLines s))) ≡ d → picked c d ≢ 0 → Fault (picked c d) s
+    by true p d q h = inl (refl, ltb-true _ _ p)
+    by false p true q h = inr (refl, (λ z. clash (lt-ltb _ _ z) p), ltb-true _ _ q)
+    by false p false q h = absurd (h refl)
+
+is-fault : (n : ℕ) (s : Source) → Fault n s → massFault s ≡ n
+unfolding massFault belowZero
+is-fault n s (inl f) = rw (lt-ltb _ _ (f .1)) (sym (f .0))
+is-fault n s (inr f) = rw (not-both (belowZero (decodedLines s)) (λ e. f .1 (ltb-true _ _ e)), lt-ltb _ _ (f .2)) (sym (f .0))
+
+fault-at : (b : List ℕ) (i : ℕ) → i < sourceCount b → getD (map massFault (sourcesOf b)) i (massFault noSource) ≡ massFault (sourceAt b i)
+fault-at b i l = List·getD-map massFault (sourcesOf b) i noSource ∙ ap massFault (source-at b i l)
+
+pub no-fault : massFault noSource ≡ 0
+unfolding massFault belowZero decodedLines added taken sum masses mass rounded countUp equivalent weighed
+no-fault = refl
+
+fault-not-none : (n : ℕ) (s : Source) → Fault n s → n ≢ 0
+fault-not-none n s (inl f) e = omega arith
+fault-not-none n s (inr f) e = omega arith
+
+pub mass-decides : (b : List ℕ) → Decides (massTest (sourcesOf b)) (atLeast (sourceCount b) (MassFault b))
+unfolding massTest faultAt
+mass-decides b =
+    let fs = map massFault (sourcesOf b) in
+    let e : length fs ≡ sourceCount b = length-map (sourcesOf b) massFault ∙ length-sources b in
+    let f : (i : ℕ) → i < sourceCount b → getD fs i 0 ≡ massFault (sourceAt b i) = λ i l. rw no-fault at (fault-at b i l) in
+    rw e
+    (decide-first (faultAt fs) (sourceCount b) (λ i. getD fs i 0) (MassFault b)
+    (λ i l t. rw (f i l) (fault-is (sourceAt b i) (λ z. eqb-false (getD fs i 0) 0 (not-true (eqb (getD fs i 0) 0) t) (f i l ∙ z))))
+    (λ i n l w. let q : n ≡ getD fs i 0 = sym (is-fault n (sourceAt b i) w) ∙ sym (f i l) in
+    (ap not (ne-eqb (getD fs i 0) 0 (λ z. fault-not-none n (sourceAt b i) w (q ∙ z))), q)))

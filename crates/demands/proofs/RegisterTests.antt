@@ -1,0 +1,150 @@
+-- The tests 1 to 4 of a register decide their rows. Assumes nothing.
+use mathlib.Core.Bool.{Bool, true, false, _||_, _&&_, not}
+use mathlib.Core.List.{List, [], _∷_, _++_, map}
+use mathlib.Core.Logic.{_⊎_, inl, inr, ⊎-elim, _↔_, _≢_}
+use mathlib.Core.Path.{_≡_, refl, sym, ap, _∙_}
+use Prim.Native.Nat.{ℕ, zero, suc, _+_, _≤_, _<_}
+use native.Mathlib.Nat.{zero-add}
+use native.Mathlib.Omega.{arith}
+use lib.Dec.{eqb, ltb, leb}
+use lib.ListN.{length, getD, take, length-map, List·getD-map, length-take}
+use lib.Seq.{getD-take}
+use borrow.Author.Tests.{ltb-true, ltb-false, leb-true, leb-false, eqb-true, eqb-false, lt-ltb, le-ltb, le-leb, lt-leb, eq-eqb, ne-eqb, not-true, not-false}
+use Rattle.basis.specs.declared.Verdict.{Verdict}
+use Rattle.basis.specs.declared.Verdict.the-variants.{Passes, Refuses}
+use Rattle.basis.specs.Bytes.{numberAt, ascii, startsWith}
+use Rattle.basis.specs.Lists.{countUp, any, stands}
+use Rattle.basis.specs.First.{first}
+use Rattle.basis.specs.Answers.{refuseIf, refuseAtFirst, firstRefusal}
+use Rattle.basis.proofs.First.{clash}
+use Rattle.basis.proofs.Lists.{length-countUp}
+use Rattle.meaning.specs.Methods.{within}
+use Rattle.meaning.specs.Register.{Source, registerTag, registerLayout, yearOf, isYear, sourceCount, mostSources, lineCount, mostLines, nameBytes, mostNameBytes, sourcesAt, linesAt, namesAt, wholeLength, lengthTest, headerTests, sourceEntry, numberIn, sourceAt, sourcesOf, lineStart, nameStart, misplaced, unsound, wrongSource, sourceTest, restTest, repeats, repeatTest, registerTests}
+use Rattle.demands.specs.Exactly.{Row, at, atLeast, numbered}
+use Rattle.demands.specs.Refusals.{headerRows, WrongSource, Repeated, registerRows}
+use Rattle.demands.proofs.Lists.{and-true, or-false, true-and, or-true, not-both, any-some, some-any, getD-counted}
+use Rattle.demands.proofs.Rows.{starts-tag, taken-starts}
+use Rattle.demands.proofs.Exactly.{Decides, DecideAll, decide-if, decide-first, decide-append}
+
+-- a test that a number is the one laid down; that it is not above a limit
+decide-is : (a b number place : ℕ) → Decides (refuseIf (not (eqb a b)) number place) (at number place (a ≢ b))
+decide-is a b number place =
+    decide-if (not (eqb a b)) number place (a ≢ b) (λ e. eqb-false a b (not-true (eqb a b) e)) (λ e f. f (eqb-true a b (not-false (eqb a b) e)))
+
+decide-above : (most a number place : ℕ) → Decides (refuseIf (ltb most a) number place) (at number place (most < a))
+decide-above most a number place = decide-if (ltb most a) number place (most < a) (ltb-true most a) (λ e l. clash (lt-ltb most a l) e)
+
+-- one of two conditions
+pub or-either : (a b : Bool) → a || b ≡ true → (a ≡ true) ⊎ (b ≡ true)
+or-either true b e = inl refl
+or-either false b e = inr e
+
+either-or : (a b : Bool) → (a ≡ true) ⊎ (b ≡ true) → a || b ≡ true
+either-or a b (inl e) = rw e
+either-or a b (inr e) = rw e (or-true a)
+
+decide-either : (a b c d number place : ℕ) → Decides (refuseIf (not (eqb a b) || not (eqb c d)) number place) (at number place ((a ≢ b) ⊎ (c ≢ d)))
+decide-either a b c d number place =
+    decide-if (not (eqb a b) || not (eqb c d)) number place ((a ≢ b) ⊎ (c ≢ d))
+    (λ e. ⊎-elim (λ h. inl (eqb-false a b (not-true (eqb a b) h))) (λ h. inr (eqb-false c d (not-true (eqb c d) h))) (or-either (not (eqb a b)) (not (eqb c d)) e))
+    (λ e. let h = or-false (not (eqb a b)) (not (eqb c d)) e in
+    ⊎-elim (λ f. f (eqb-true a b (not-false (eqb a b) (h .0)))) (λ f. f (eqb-true c d (not-false (eqb c d) (h .1)))))
+
+year-decides : (y : ℕ) → Decides (refuseIf (not (isYear y)) 2 6) (at 2 6 ((y < 1990) ⊎ (2100 < y)))
+year-decides y =
+    decide-if (not (isYear y)) 2 6 ((y < 1990) ⊎ (2100 < y))
+    (λ e. out (leb 1990 y) refl (leb y 2100) refl (not-true (isYear y) e))
+    (λ e. let h = and-true (leb 1990 y) (leb y 2100) (not-false (isYear y) e) in
+    ⊎-elim (λ l. clash (h .0) (lt-leb 1990 y l)) (λ l. clash (h .1) (lt-leb y 2100 l)))
+  where
+    out : (a : Bool) → leb 1990 y ≡ a → (b : Bool) → leb y 2100 ≡ b → a && b ≡ false → (y < 1990) ⊎ (2100 < y)
+    out true p true q e = absurd (clash refl e)
+    out true p false q e = inr (leb-false y 2100 q)
+    out false p b q e = inl (leb-false 1990 y p)
+
+pub header-decides : (b : List ℕ) → DecideAll (headerTests b) (headerRows b)
+unfolding headerTests
+header-decides b =
+    (decide-if (not (startsWith registerTag b)) 2 0 (take 4 b ≢ ascii "GREG")
+    (λ e f. clash (taken-starts registerTag b f) (not-true (startsWith registerTag b) e))
+    (λ e f. f (starts-tag registerTag b (omega arith) (not-false (startsWith registerTag b) e))),
+    λ _. (decide-is (numberAt 2 b 4) registerLayout 2 4,
+    λ _. (year-decides (yearOf b),
+    λ _. (decide-above mostSources (sourceCount b) 2 8,
+    λ _. (decide-above mostLines (lineCount b) 2 10,
+    λ _. (decide-above mostNameBytes (nameBytes b) 2 12,
+    λ _. (decide-is (numberAt 4 b 16) sourcesAt 2 16,
+    λ _. (decide-is (numberAt 4 b 20) (linesAt (sourceCount b)) 2 20,
+    λ _. (decide-is (numberAt 4 b 24) (namesAt (sourceCount b) (lineCount b)) 2 24,
+    λ _. (decide-either (numberAt 4 b 28) (wholeLength (sourceCount b) (lineCount b) (nameBytes b)) (length b) (wholeLength (sourceCount b) (lineCount b) (nameBytes b)) 2 28,
+    λ _. tt))))))))))
+
+-- a test that refuses with one number at the first index that is wrong
+pub decide-at-first : (number : ℕ) (test : ℕ → Bool) (count : ℕ) (W : ℕ → Type 0) → ((i : ℕ) → i < count → test i ≡ true → W i) → ((i : ℕ) → i < count → W i → test i ≡ true)
+    → Decides (refuseAtFirst number test count) (atLeast count (numbered number W))
+unfolding refuseAtFirst
+decide-at-first number test count W right only =
+    decide-first test count (λ i. number) (numbered number W) (λ i l e. (refl, right i l e)) (λ i n l w. (only i l (w .1), w .0))
+
+source-decides : (b : List ℕ) → Decides (sourceTest b) (atLeast (sourceCount b) (numbered 3 (WrongSource b)))
+unfolding sourceTest wrongSource
+source-decides b =
+    decide-at-first 3 (wrongSource b) (sourceCount b) (WrongSource b)
+    (λ i l e. or-either (misplaced b i) (unsound (sourceAt b i)) e)
+    (λ i l w. either-or (misplaced b i) (unsound (sourceAt b i)) w)
+
+rest-decides : (b : List ℕ)
+    → Decides (restTest b) (at 3 (sourceCount b) ((lineStart b (sourceCount b) ≢ lineCount b) ⊎ (nameStart b (sourceCount b) ≢ nameBytes b)))
+unfolding restTest
+rest-decides b = decide-either (lineStart b (sourceCount b)) (lineCount b) (nameStart b (sourceCount b)) (nameBytes b) 3 (sourceCount b)
+
+-- the sources of a register, by index
+abbrev pub noSource : Source
+noSource = record { number = 0; method = 0; parameter = 0; name = []; lines = [] }
+
+abbrev pub sourceNumber : Source → ℕ
+sourceNumber s = s .number
+
+pub length-sources : (b : List ℕ) → length (sourcesOf b) ≡ sourceCount b
+unfolding sourcesOf
+length-sources b = length-map (countUp 0 (sourceCount b)) (sourceAt b) ∙ length-countUp 0 (sourceCount b)
+
+pub source-at : (b : List ℕ) (i : ℕ) → i < sourceCount b → getD (sourcesOf b) i noSource ≡ sourceAt b i
+unfolding sourcesOf
+source-at b i l = getD-counted (sourceAt b) noSource (sourceCount b) 0 i l ∙ ap (sourceAt b) (zero-add i)
+
+number-at : (b : List ℕ) (i : ℕ) → i < sourceCount b → getD (map sourceNumber (sourcesOf b)) i 0 ≡ numberIn (sourceEntry b i)
+unfolding sourceAt
+number-at b i l = List·getD-map sourceNumber (sourcesOf b) i noSource ∙ ap sourceNumber (source-at b i l)
+
+-- a number stands in the front of a list exactly if it stands at a smaller index
+pub repeats-some : (ns : List ℕ) (i : ℕ) → i < length ns → repeats ns i ≡ true → (j : ℕ) × (j < i) × (getD ns j 0 ≡ getD ns i 0)
+unfolding repeats stands
+repeats-some ns i l e =
+    let r = any-some (λ m. eqb m (getD ns i 0)) 0 (take i ns) e in
+    let m : r .0 < i = omega (arith, rw length-take at (r .1)) in
+    (r .0, m, sym (getD-take i ns (r .0) 0 m) ∙ eqb-true _ _ (r .2))
+
+pub some-repeats : (ns : List ℕ) (i j : ℕ) → i < length ns → j < i → getD ns j 0 ≡ getD ns i 0 → repeats ns i ≡ true
+unfolding repeats stands
+some-repeats ns i j l m e =
+    let q : j < length (take i ns) = rw length-take (omega arith) in
+    some-any (λ m. eqb m (getD ns i 0)) 0 (take i ns) j q (eq-eqb _ _ (getD-take i ns j 0 m ∙ e))
+
+repeat-decides : (b : List ℕ) → Decides (repeatTest (sourcesOf b)) (atLeast (sourceCount b) (numbered 4 (Repeated b)))
+unfolding repeatTest
+repeat-decides b =
+    let ns = map sourceNumber (sourcesOf b) in
+    let e : length ns ≡ sourceCount b = length-map (sourcesOf b) sourceNumber ∙ length-sources b in
+    rw e
+    (decide-at-first 4 (repeats ns) (sourceCount b) (Repeated b)
+    (λ i l t. let r = repeats-some ns i (omega arith) t in
+    (r .0, r .1, sym (number-at b (r .0) (omega (arith, r .1))) ∙ r .2 ∙ number-at b i l))
+    (λ i l r. some-repeats ns i (r .0) (omega arith) (r .1) (number-at b (r .0) (omega (arith, r .1)) ∙ r .2 ∙ sym (number-at b i l))))
+
+pub register-decides : (b : List ℕ) → DecideAll (registerTests b) (registerRows b)
+unfolding registerTests
+register-decides b =
+    (decide-if (ltb (length b) sourcesAt) 1 0 (length b < sourcesAt) (ltb-true (length b) sourcesAt) (λ e l. clash (lt-ltb (length b) sourcesAt l) e),
+    λ _. decide-append (headerTests b) (sourceTest b ∷ restTest b ∷ repeatTest (sourcesOf b) ∷ []) (headerRows b) _ (header-decides b)
+    (λ _. (source-decides b, λ _. (rest-decides b, λ _. (repeat-decides b, λ _. tt)))))

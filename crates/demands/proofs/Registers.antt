@@ -1,0 +1,128 @@
+-- A register that passes 1 to 4 is laid right, its sources are sound, and no number stands twice; and the other way round. Assumes nothing.
+use mathlib.Core.Bool.{Bool, true, false, _||_, _&&_, not}
+use mathlib.Core.List.{List, [], _∷_, _++_, map}
+use mathlib.Core.Logic.{_≢_}
+use mathlib.Core.Path.{_≡_, refl, sym, ap, _∙_}
+use Prim.Native.Nat.{ℕ, zero, suc, _+_, _≤_, _<_, zero-le, suc-le-suc}
+use native.Mathlib.Nat.{not-suc-le-zero, le-of-suc-le-suc}
+use native.Mathlib.Omega.{arith}
+use lib.Dec.{eqb, ltb, leb}
+use lib.ListN.{length, getD, take, length-map, List·getD-map}
+use borrow.Author.Tests.{ltb-false, leb-true, eqb-true, le-ltb, le-leb, eq-eqb, not-true, not-false}
+use Rattle.basis.specs.declared.Verdict.{Verdict}
+use Rattle.basis.specs.declared.Verdict.the-variants.{Passes}
+use Rattle.basis.specs.Bytes.{numberAt, ascii, startsWith}
+use Rattle.basis.specs.Answers.{refuseIf, refuseAtFirst, firstRefusal}
+use Rattle.basis.proofs.First.{clash}
+use Rattle.basis.proofs.Answers.{passed-at-all}
+use Rattle.meaning.specs.Register.{Source, registerTag, registerLayout, yearOf, isYear, sourceCount, mostSources, lineCount, mostLines, nameBytes, mostNameBytes, sourcesAt, linesAt, namesAt, wholeLength, lengthTest, headerTests, sourceAt, sourcesOf, lineStart, nameStart, misplaced, unsound, wrongSource, sourceTest, restTest, repeats, repeatTest, registerTests}
+use Rattle.demands.specs.Valid.{Each, Distinct, LaidRight}
+use Rattle.demands.proofs.Lists.{and-true, true-and, or-false, false-or, not-both, each-at, at-each}
+use Rattle.demands.proofs.Rows.{starts-tag, taken-starts}
+use Rattle.demands.proofs.Exactly.{each-passes, passes-each, passed-if, if-passed}
+use Rattle.demands.proofs.RegisterTests.{noSource, sourceNumber, length-sources, source-at, repeats-some, some-repeats}
+
+-- different keys, by index
+pub distinct-lt : {A : Type 0} (key : A → ℕ) (d : A) (xs : List A) → Distinct key xs → (i j : ℕ) → j < i → i < length xs → key (getD xs j d) ≢ key (getD xs i d)
+distinct-lt key d [] h i j l m = absurd (not-suc-le-zero m)
+distinct-lt key d (x ∷ xs) h zero j l m = absurd (not-suc-le-zero l)
+distinct-lt key d (x ∷ xs) h (suc i) zero l m = each-at (λ y. key x ≢ key y) xs d (h .0) i (le-of-suc-le-suc m)
+distinct-lt key d (x ∷ xs) h (suc i) (suc j) l m = distinct-lt key d xs (h .1) i j (le-of-suc-le-suc l) (le-of-suc-le-suc m)
+
+pub lt-distinct : {A : Type 0} (key : A → ℕ) (d : A) (xs : List A) → ((i j : ℕ) → j < i → i < length xs → key (getD xs j d) ≢ key (getD xs i d)) → Distinct key xs
+lt-distinct key d [] h = tt
+lt-distinct key d (x ∷ xs) h =
+    (at-each (λ y. key x ≢ key y) xs d (λ i l. h (suc i) 0 (suc-le-suc zero-le) (suc-le-suc l)),
+    lt-distinct key d xs (λ i j l m. h (suc i) (suc j) (suc-le-suc l) (suc-le-suc m)))
+
+-- no number is repeated exactly if the numbers are different
+not-repeated : (ss : List Source) → repeatTest ss ≡ Passes → Distinct sourceNumber ss
+unfolding repeatTest
+not-repeated ss e =
+    let ns = map sourceNumber ss in
+    let q : length ns ≡ length ss = length-map ss sourceNumber in
+    let f = passed-at-all 4 (repeats ns) (length ns) .0 e in
+    lt-distinct sourceNumber noSource ss
+    (λ i j l m r. clash (some-repeats ns i j (omega arith) l (List·getD-map sourceNumber ss j noSource ∙ r ∙ sym (List·getD-map sourceNumber ss i noSource))) (f i (omega arith)))
+
+repeated-not : (ss : List Source) → Distinct sourceNumber ss → repeatTest ss ≡ Passes
+unfolding repeatTest
+repeated-not ss d =
+    let ns = map sourceNumber ss in
+    let q : length ns ≡ length ss = length-map ss sourceNumber in
+    passed-at-all 4 (repeats ns) (length ns) .1
+    (λ i l. not-both (repeats ns i) (λ t. let r = repeats-some ns i l t in
+    distinct-lt sourceNumber noSource ss d i (r .0) (r .1) (omega arith) (sym (List·getD-map sourceNumber ss (r .0) noSource) ∙ r .2 ∙ List·getD-map sourceNumber ss i noSource)))
+
+-- what passing 1 to 4 says
+pub record Passed (b : List ℕ) : Type 0 where
+  pub laid : LaidRight b
+  pub sound : (i : ℕ) → i < sourceCount b → unsound (sourceAt b i) ≡ false
+  pub once : Distinct sourceNumber (sourcesOf b)
+
+same : (a b n p : ℕ) → refuseIf (not (eqb a b)) n p ≡ Passes → a ≡ b
+same a b n p e = eqb-true a b (not-false (eqb a b) (passed-if (not (eqb a b)) n p e))
+
+pub passed : (b : List ℕ) → firstRefusal (registerTests b) ≡ Passes → Passed b
+unfolding registerTests headerTests sourceTest restTest wrongSource
+passed b e =
+    let h = each-passes (registerTests b) e in
+    let tag : Each (λ c. 0 < c) registerTag = omega arith in
+    let h2 = h .1 .1 .1 .1 .1 .1 .1 .1 .1 .1 in
+    let y = and-true _ _ (not-false _ (passed-if _ 2 6 (h .1 .1 .1 .0))) in
+    let w = or-false _ _ (passed-if _ 2 28 (h2 .0)) in
+    let placed = passed-at-all 3 (wrongSource b) (sourceCount b) .0 (h2 .1 .0) in
+    let r = or-false _ _ (passed-if _ 3 (sourceCount b) (h2 .1 .1 .0)) in
+    record {
+      laid =
+        record {
+          long = ltb-false _ _ (passed-if _ 1 0 (h .0));
+          tag = starts-tag registerTag b tag (not-false _ (passed-if _ 2 0 (h .1 .0)));
+          layout = same _ _ 2 4 (h .1 .1 .0);
+          year = (leb-true _ _ (y .0), leb-true _ _ (y .1));
+          sources = ltb-false _ _ (passed-if _ 2 8 (h .1 .1 .1 .1 .0));
+          lines = ltb-false _ _ (passed-if _ 2 10 (h .1 .1 .1 .1 .1 .0));
+          names = ltb-false _ _ (passed-if _ 2 12 (h .1 .1 .1 .1 .1 .1 .0));
+          atSources = same _ _ 2 16 (h .1 .1 .1 .1 .1 .1 .1 .0);
+          atLines = same _ _ 2 20 (h .1 .1 .1 .1 .1 .1 .1 .1 .0);
+          atNames = same _ _ 2 24 (h .1 .1 .1 .1 .1 .1 .1 .1 .1 .0);
+          whole = eqb-true _ _ (not-false _ (w .0));
+          filled = eqb-true _ _ (not-false _ (w .1));
+          placed = λ i l. or-false (misplaced b i) (unsound (sourceAt b i)) (placed i l) .0;
+          lastLine = eqb-true _ _ (not-false _ (r .0));
+          lastName = eqb-true _ _ (not-false _ (r .1));
+        };
+      sound = λ i l. or-false (misplaced b i) (unsound (sourceAt b i)) (placed i l) .1;
+      once = not-repeated (sourcesOf b) (h2 .1 .1 .1 .0);
+    }
+
+-- and what makes it pass
+differs : (a b n p : ℕ) → a ≡ b → refuseIf (not (eqb a b)) n p ≡ Passes
+differs a b n p e = if-passed (not (eqb a b)) n p (ap not (eq-eqb a b e))
+
+within-most : (most a n p : ℕ) → a ≤ most → refuseIf (ltb most a) n p ≡ Passes
+within-most most a n p l = if-passed (ltb most a) n p (le-ltb most a l)
+
+pub passing : (b : List ℕ) → Passed b → firstRefusal (registerTests b) ≡ Passes
+unfolding registerTests headerTests sourceTest restTest wrongSource
+passing b h =
+    let l = h .laid in
+    let n = sourceCount b in
+    let whole = wholeLength n (lineCount b) (nameBytes b) in
+    passes-each (registerTests b)
+    (if-passed (ltb (length b) sourcesAt) 1 0 (le-ltb (length b) sourcesAt (l .long)),
+    (if-passed (not (startsWith registerTag b)) 2 0 (ap not (taken-starts registerTag b (l .tag))),
+    (differs (numberAt 2 b 4) registerLayout 2 4 (l .layout),
+    (if-passed (not (isYear (yearOf b))) 2 6 (ap not (true-and (leb 1990 (yearOf b)) (leb (yearOf b) 2100) (le-leb _ _ (l .year .0)) (le-leb _ _ (l .year .1)))),
+    (within-most mostSources n 2 8 (l .sources),
+    (within-most mostLines (lineCount b) 2 10 (l .lines),
+    (within-most mostNameBytes (nameBytes b) 2 12 (l .names),
+    (differs (numberAt 4 b 16) sourcesAt 2 16 (l .atSources),
+    (differs (numberAt 4 b 20) (linesAt n) 2 20 (l .atLines),
+    (differs (numberAt 4 b 24) (namesAt n (lineCount b)) 2 24 (l .atNames),
+    (if-passed (not (eqb (numberAt 4 b 28) whole) || not (eqb (length b) whole)) 2 28
+    (false-or (not (eqb (numberAt 4 b 28) whole)) (not (eqb (length b) whole)) (ap not (eq-eqb _ _ (l .whole))) (ap not (eq-eqb _ _ (l .filled)))),
+    (passed-at-all 3 (wrongSource b) n .1 (λ i m. false-or (misplaced b i) (unsound (sourceAt b i)) (l .placed i m) (h .sound i m)),
+    (if-passed (not (eqb (lineStart b n) (lineCount b)) || not (eqb (nameStart b n) (nameBytes b))) 3 n
+    (false-or (not (eqb (lineStart b n) (lineCount b))) (not (eqb (nameStart b n) (nameBytes b))) (ap not (eq-eqb _ _ (l .lastLine))) (ap not (eq-eqb _ _ (l .lastName)))),
+    (repeated-not (sourcesOf b) (h .once), tt))))))))))))))
