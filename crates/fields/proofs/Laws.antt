@@ -1,0 +1,158 @@
+-- The loops that read and write bytes: how each begins, goes on and ends. Assumes nothing.
+use mathlib.Core.Bool.{true, false, _&&_}
+use mathlib.Core.Path.{_≡_, refl, sym, ap, _∙_}
+use mathlib.Core.List.{List, [], _∷_, append-assoc}
+use Prim.Native.Nat.{ℕ, suc, _+_, _*_, _-_, _/_, _%_, _^_, _≤_, _<_}
+use native.Mathlib.Nat.{add-assoc, add-zero, sub-zero, sub-self, pow-suc, pow-le-pow-right}
+use native.Mathlib.Numerals.{add-one}
+use native.Mathlib.Omega.{arith}
+use mir.Syntax.{w64}
+use mir.Val.{Fits}
+use borrow.Author.Needs.{needs}
+use borrow.Author.Tests.{eq-eqb, ne-eqb}
+use lib.Dec.{eqb}
+use lib.ListN.{length, take, drop, getD, set, length-set, drop-of-length-le}
+use lib.Seq.{set-split, drop-cons, drop-drop, getD-drop}
+use Rattle.basis.specs.Bytes.{bytesOf, numberOf, numberAt, splice, startsWith, Written}
+use Rattle.basis.proofs.Bytes.{length-bytesOf, splice-none, splice-splice}
+use Rattle.fields.specs.Fields.{Field}
+
+-- n is the number of the bytes from the i-th up to the k-th at a place
+pub record Read (bs : List ℕ) (at k i n : ℕ) : Type 0 where
+  pub low : i ≤ k
+  pub is : n ≡ numberOf (take (k - i) (drop (at + i) bs))
+  pub small : n < 256 ^ (k - i)
+
+pub read-none : (bs : List ℕ) (at k : ℕ) → Read bs at k k 0
+unfolding numberOf
+read-none bs at k = record { low = omega arith; is = simp sub-self; small = simp sub-self (omega arith) }
+
+pub read-all : {bs : List ℕ} {at k i n : ℕ} → Read bs at k i n → i ≤ 0 → Field k bs at n
+unfolding numberAt
+read-all {i = i} r h =
+    let z : i ≡ 0 = omega arith in
+    record { is = simp (z, add-zero, sub-zero) at (r .is); small = simp (z, sub-zero) at (r .small) }
+
+module _ {bs : List ℕ} {at k i n : ℕ} (r : Read bs at k i n) (h : 0 < i) (l : (at + k ≤ length bs) × (k ≤ 8)) where
+  -- with a byte more it still fits 64 bits
+  read-small : n < 2 ^ 56
+  read-small =
+      let q : 256 ^ (k - i) ≤ 256 ^ 7 = pow-le-pow-right (omega arith) {j = 7} (omega (arith, r .low)) in
+      omega (arith, r .small)
+
+  pub read-mul : Fits w64 (n * 256)
+  read-mul = omega (arith, read-small)
+
+  pub read-add : {b : ℕ} → b < 256 → Fits w64 (n * 256 + b)
+  read-add m = omega (arith, read-small)
+
+  pub read-more : {b : ℕ} → (b ≡ getD bs (at + (i - 1)) 0) × (b < 256) → Read bs at k (i - 1) (n * 256 + b)
+  unfolding numberOf
+  read-more m =
+      let p : at + (i - 1) < length bs = omega (arith, r .low) in
+      let q : k - (i - 1) ≡ suc (k - i) = omega (arith, r .low) in
+      let t : suc (at + (i - 1)) ≡ at + i = omega arith in
+      record {
+        low = omega (arith, r .low);
+        is = rw (q, drop-cons bs (at + (i - 1)) 0, t) (omega (arith, r .is));
+        small = rw (q, pow-suc 256) (omega (arith, r .small));
+      }
+
+pub ruleset reading = (needs, read-none, read-mul, read-add, read-more, read-all)
+
+-- ys is being written over bs₀ at a place: bs is what stands so far, and the rest, written at p, makes the whole
+pub record Writing (bs₀ : List ℕ) (at : ℕ) (ys bs : List ℕ) (p : ℕ) (rest : List ℕ) : Type 0 where
+  pub fits : at + length ys ≤ length bs₀
+  pub kept : length bs ≡ length bs₀
+  pub end : p + length rest ≡ at + length ys
+  pub whole : splice bs p rest ≡ splice bs₀ at ys
+
+splice-cons : (bs : List ℕ) (at b : ℕ) (rest : List ℕ) → at < length bs → splice (set bs at b) (at + 1) rest ≡ splice bs at (b ∷ rest)
+unfolding splice
+splice-cons bs at b rest h =
+    let e : set bs at b ≡ splice bs at (b ∷ []) = simp (set-split, add-one, append-assoc) in
+    ap (λ (l : List ℕ). splice l (at + 1) rest) e ∙ splice-splice bs at (b ∷ []) rest (omega arith)
+
+writing-none : (bs : List ℕ) (at : ℕ) (ys : List ℕ) → at + length ys ≤ length bs → Writing bs at ys bs at ys
+writing-none bs at ys h = record { fits = h; kept = refl; end = refl; whole = refl }
+
+writing-more : {bs₀ : List ℕ} {at : ℕ} {ys bs : List ℕ} {p b : ℕ} {rest : List ℕ} → Writing bs₀ at ys bs p (b ∷ rest)
+    → Writing bs₀ at ys (set bs p b) (p + 1) rest
+writing-more {bs = bs} {p = p} {b = b} {rest = rest} w =
+    record {
+      fits = w .fits;
+      kept = length-set bs p b ∙ w .kept;
+      end = omega (arith, w .end);
+      whole = splice-cons bs p b rest (omega (arith, w .fits, w .kept, w .end)) ∙ w .whole;
+    }
+
+writing-all : {bs₀ : List ℕ} {at : ℕ} {ys bs : List ℕ} {p : ℕ} → Writing bs₀ at ys bs p [] → Written bs₀ at ys bs
+writing-all {bs = bs} {p = p} w = record { fits = w .fits; is = sym (splice-none bs p) ∙ w .whole }
+
+-- i of the k bytes of v are written, and those of w are left
+pub record Put (bs₀ : List ℕ) (at k v : ℕ) (bs : List ℕ) (i w : ℕ) : Type 0 where
+  pub low : i ≤ k
+  pub left : Writing bs₀ at (bytesOf k v) bs (at + i) (bytesOf (k - i) w)
+
+pub put-none : (bs : List ℕ) (at k v : ℕ) → at + k ≤ length bs → Put bs at k v bs 0 v
+put-none bs at k v h = record { low = omega arith; left = simp (add-zero, sub-zero) (writing-none bs at (bytesOf k v) (rw length-bytesOf h)) }
+
+pub put-more : {bs₀ : List ℕ} {at k v : ℕ} {bs : List ℕ} {i w : ℕ} → Put bs₀ at k v bs i w → i < k
+    → Put bs₀ at k v (set bs (at + i) (w % 256)) (i + 1) (w / 256)
+unfolding bytesOf
+put-more {at = at} {k = k} {i = i} p h =
+    let q : k - i ≡ suc (k - (i + 1)) = omega arith in
+    record { low = omega arith; left = rw add-assoc at (writing-more (rw q at (p .left))) }
+
+pub put-all : {bs₀ : List ℕ} {at k v : ℕ} {bs : List ℕ} {i w : ℕ} → Put bs₀ at k v bs i w → k ≤ i → Written bs₀ at (bytesOf k v) bs
+unfolding bytesOf
+put-all {k = k} {i = i} p h = let z : k - i ≡ 0 = omega arith in writing-all (rw z at (p .left))
+
+pub ruleset putting = (needs, put-none, put-more, put-all)
+
+-- i of the bytes ys are copied
+pub record Copied (bs₀ : List ℕ) (at : ℕ) (ys bs : List ℕ) (i : ℕ) : Type 0 where
+  pub low : i ≤ length ys
+  pub left : Writing bs₀ at ys bs (at + i) (drop i ys)
+
+pub copied-none : (bs : List ℕ) (at : ℕ) (ys : List ℕ) → at + length ys ≤ length bs → Copied bs at ys bs 0
+copied-none bs at ys h = record { low = omega arith; left = rw add-zero (writing-none bs at ys h) }
+
+pub copied-more : {bs₀ : List ℕ} {at : ℕ} {ys bs : List ℕ} {i : ℕ} → Copied bs₀ at ys bs i → i < length ys
+    → Copied bs₀ at ys (set bs (at + i) (getD ys i 0)) (i + 1)
+copied-more {ys = ys} {i = i} c h =
+    let e : drop i ys ≡ getD ys i 0 ∷ drop (i + 1) ys = rw (drop-cons ys i 0, add-one) in
+    record { low = omega arith; left = rw add-assoc at (writing-more (rw e at (c .left))) }
+
+pub copied-all : {bs₀ : List ℕ} {at : ℕ} {ys bs : List ℕ} {i : ℕ} → Copied bs₀ at ys bs i → length ys ≤ i → Written bs₀ at ys bs
+copied-all {ys = ys} c h = writing-all (rw (drop-of-length-le ys h) at (c .left))
+
+pub ruleset copying = (needs, copied-none, copied-more, copied-all)
+
+-- the first i bytes of a tag stand at the front, and what is left of it decides
+pub record Begun (tag bs : List ℕ) (i : ℕ) : Type 0 where
+  pub low : i ≤ length tag
+  pub rest : startsWith tag bs ≡ startsWith (drop i tag) (drop i bs)
+
+pub begun-none : (tag bs : List ℕ) → Begun tag bs 0
+begun-none tag bs = record { low = omega arith; rest = refl }
+
+module _ {tag bs : List ℕ} {i : ℕ} (b : Begun tag bs i) where
+  next : i < length tag → startsWith tag bs ≡ eqb (getD bs i 0) (getD tag i 0) && startsWith (drop (i + 1) tag) (drop (i + 1) bs)
+  unfolding startsWith
+  next h =
+      let e : drop i tag ≡ getD tag i 0 ∷ drop (i + 1) tag = rw (drop-cons tag i 0, add-one) in
+      let f : getD (drop i bs) 0 0 ≡ getD bs i 0 = rw (getD-drop, add-zero) in
+      simp (f, drop-drop) at (rw e at (b .rest))
+
+  pub begun-more : i < length tag → getD bs i 0 ≡ getD tag i 0 → Begun tag bs (i + 1)
+  begun-more h e = record { low = omega arith; rest = next h ∙ rw (eq-eqb (getD bs i 0) (getD tag i 0) e) }
+
+  pub begun-not : i < length tag → (getD bs i 0 ≡ getD tag i 0 → ⊥) → false ≡ startsWith tag bs
+  begun-not h n = sym (next h ∙ rw (ne-eqb (getD bs i 0) (getD tag i 0) n))
+
+  pub begun-all : length tag ≤ i → true ≡ startsWith tag bs
+  unfolding startsWith
+  begun-all h = sym (b .rest ∙ rw (drop-of-length-le tag h))
+
+pub ruleset comparing = (needs, begun-none, begun-more, begun-not, begun-all)
