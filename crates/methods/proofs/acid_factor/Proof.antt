@@ -1,0 +1,15 @@
+use borrow.Author.Needs.{needs}
+use Rattle.meaning.specs.Methods.{acids}
+use Rattle.methods.specs.Ranges.{mostAcid}
+use Rattle.methods.proofs.Laws.{entry, no-entry}
+use Rattle.methods.proofs.acid_factor.Statement.{statement}
+use Rattle.methods.proofs.acid_factor.Tie as tie
+
+pub acid-factor-spec : {M : Type 1} → statement M
+acid-factor-spec =
+    tie.close
+    (tie.spec
+    (search needs)
+    (search needs)
+    (λ c. search (needs, entry acids 0 mostAcid tt))
+    (λ c. search (needs, no-entry acids mostAcid)))

@@ -1,0 +1,15 @@
+use borrow.Author.Needs.{needs}
+use Rattle.meaning.specs.Methods.{carbonates}
+use Rattle.methods.specs.Ranges.{carbonFactor}
+use Rattle.methods.proofs.Laws.{entry, no-entry}
+use Rattle.methods.proofs.carbonate_factor.Statement.{statement}
+use Rattle.methods.proofs.carbonate_factor.Tie as tie
+
+pub carbonate-factor-spec : {M : Type 1} → statement M
+carbonate-factor-spec =
+    tie.close
+    (tie.spec
+    (search needs)
+    (search needs)
+    (λ c. search (needs, entry carbonates 0 carbonFactor tt))
+    (λ c. search (needs, no-entry carbonates carbonFactor)))

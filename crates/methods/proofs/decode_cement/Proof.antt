@@ -1,0 +1,13 @@
+use borrow.Author.Needs.{needs}
+use Rattle.methods.proofs.decode_cement.Statement.{statement}
+use Rattle.methods.proofs.decode_cement.Tie as tie
+
+pub decode-cement-spec : {M : Type 1} → statement M
+decode-cement-spec =
+    tie.close
+    (tie.spec
+    (λ c κs. search needs)
+    (λ c κs. search needs)
+    (λ c κs. search needs)
+    (λ c κs. search needs)
+    (λ c. (rw (c .before .line-if2 .ensures .0, c .before .before .line-if .ensures .0, c .before .before .before .carbonate-factor .ensures .is) at (c .line-if3 .ensures .0), c .line-if3 .ensures .1)))

@@ -1,0 +1,304 @@
+// Document 01, "Methods and their lines": a line read to its kind, and a kind as what it adds to or takes from a gas.
+ghost use mathlib.Core.Path.{_≡_};
+ghost use Prim.Native.Nat.{_*_, _≤_, _<_};
+ghost use Rattle.meaning.specs.Methods.{whole, carbonates, acids, balanced, mostContent, inRange, given, fuel, flare, metals, petrochemical, cement, nitricAcid, byMethod, decoded};
+ghost use Rattle.meaning.specs.Masses.{warming, gasCount, carbonDioxide, contribution};
+ghost use Rattle.methods.specs.Ranges.{Entry, InRanges, KindFits, LineFits, mostA, carbonFactor, mostAcid};
+ghost use Rattle.methods.specs.Terms.{Weighs, contributed};
+use meaning::Decoded;
+use meaning::Kind;
+use meaning::Line;
+use meaning::RawLine;
+
+// A kind as one product: a line of quantity q adds q * content * factor to the sum of its gas, or takes it from there.
+pub struct Term {
+    pub gas: u64,
+    pub takes: bool,
+    pub content: u64,
+    pub factor: u64,
+}
+
+// The whole of a share, in ten-thousandths.
+const WHOLE: u64 = 10000;
+
+// Tonnes of CO2 that a thousand tonnes of carbon make.
+const CO2_OF_CARBON: u64 = 3664;
+
+// The gases, by their places in the report.
+const CARBON_DIOXIDE: u64 = 0;
+
+const METHANE: u64 = 1;
+
+const NITROUS_OXIDE: u64 = 2;
+
+// The carbonates' factors by code, the acids' by parameter, and the gases' warming potentials. No carbonate has code 0 and no plant
+// parameter 0.
+const CARBONATES: [u64; 5] = [0, 440, 522, 477, 380];
+
+const ACIDS: [u64; 7] = [0, 20000, 25000, 50000, 75000, 90000, 5];
+
+const WARMING: [u64; 3] = [1, 25, 298];
+
+pub fn carbonate_factor(code: u64) -> u64
+    ensures { λ r. ⌜ Entry carbonates 0 carbonFactor code r ⌝ }
+{
+    if code < 5 {
+        return CARBONATES[code as usize];
+    }
+    0
+}
+
+pub fn acid_factor(parameter: u64) -> u64
+    ensures { λ r. ⌜ Entry acids 0 mostAcid parameter r ⌝ }
+{
+    if parameter < 7 {
+        return ACIDS[parameter as usize];
+    }
+    0
+}
+
+pub fn warming_of(gas: u64) -> u64
+    requires { ⌜ gas < gasCount ⌝ }
+    ensures { λ r. ⌜ Entry warming 1 298 gas r ⌝ }
+{
+    WARMING[gas as usize]
+}
+
+// A line of the kind where the test holds, and else what the later kinds make of it.
+fn line_if(line: RawLine, holds: bool, kind: Kind, other: Decoded) -> Decoded
+    requires { ⌜ InRanges line × KindFits kind × LineFits other ⌝ }
+    ensures { λ r. ⌜ (r ≡ given holds line kind other) × LineFits r ⌝ }
+{
+    if holds {
+        return Decoded::Good(Line {
+            quantity: line.q,
+            kind,
+        });
+    }
+    other
+}
+
+fn decode_fuel(line: RawLine) -> Decoded
+    requires { ⌜ InRanges line ⌝ }
+    ensures { λ r. ⌜ (r ≡ fuel line) × LineFits r ⌝ }
+{
+    let any_unit = (1 <= line.unit) & (line.unit <= 4);
+    let burned = (line.code == 3) | (1 <= line.code) & (line.code <= 2) & (line.b == WHOLE);
+    line_if(
+        line,
+        (line.kind == 1) & any_unit & burned,
+        Kind::Fuel {
+            carbon: line.a,
+            oxidised: line.b,
+        },
+        Decoded::Bad,
+    )
+}
+
+fn decode_flare(line: RawLine) -> Decoded
+    requires { ⌜ InRanges line ⌝ }
+    ensures { λ r. ⌜ (r ≡ flare line) × LineFits r ⌝ }
+{
+    let gas_unit = (1 <= line.unit) & (line.unit <= 2);
+    let burned = (line.kind == 1) & gas_unit & (line.code == 0);
+    let escaped = (line.kind == 2) & gas_unit & (line.code == 0);
+    let content = line.a;
+    let unburned = line.b;
+    let carbon = Kind::FlareCarbon {
+        carbon: content,
+        unburned,
+    };
+    let methane = Kind::FlareMethane {
+        methane: content,
+        unburned,
+    };
+    let second = line_if(line, escaped, methane, Decoded::Bad);
+    line_if(line, burned, carbon, second)
+}
+
+// What the carbon balances of methods 3 and 4 ask of each line: any unit, code 0, B whole.
+fn is_balanced(line: RawLine) -> bool
+    ensures { λ r. ⌜ r ≡ balanced line ⌝ }
+{
+    (1 <= line.unit) & (line.unit <= 4) & (line.code == 0) & (line.b == WHOLE)
+}
+
+fn decode_metals(line: RawLine) -> Decoded
+    requires { ⌜ InRanges line ⌝ }
+    ensures { λ r. ⌜ (r ≡ metals line) × LineFits r ⌝ }
+{
+    let kind = line.kind;
+    let carbon = line.a;
+    let fits = is_balanced(line);
+    let charged = (kind == 10) & fits;
+    let drawn = (kind == 11) & fits;
+    let opening = (kind == 12) & fits;
+    let closing = (kind == 13) & fits;
+    let fourth = line_if(line, closing, Kind::ClosingStock { carbon }, Decoded::Bad);
+    let third = line_if(line, opening, Kind::OpeningStock { carbon }, fourth);
+    let second = line_if(line, drawn, Kind::MetalOut { carbon }, third);
+    line_if(line, charged, Kind::MetalIn { carbon }, second)
+}
+
+fn decode_petrochemical(parameter: u64, line: RawLine) -> Decoded
+    requires { ⌜ InRanges line ⌝ }
+    ensures { λ r. ⌜ (r ≡ petrochemical parameter line) × LineFits r ⌝ }
+{
+    let kind = line.kind;
+    let carbon = line.a;
+    let fits = is_balanced(line);
+    let feed = (kind == 10) & fits;
+    let product = (kind == 11) & fits;
+    let by_product = (kind == 14) & fits & ((parameter == 2) | (parameter == 5));
+    let third = line_if(line, by_product, Kind::ByProduct { carbon }, Decoded::Bad);
+    let second = line_if(line, product, Kind::Product { carbon }, third);
+    line_if(line, feed, Kind::Feed { carbon }, second)
+}
+
+fn decode_cement(line: RawLine) -> Decoded
+    requires { ⌜ InRanges line ⌝ }
+    ensures { λ r. ⌜ (r ≡ cement line) × LineFits r ⌝ }
+{
+    let listed = (1 <= line.code) & (line.code <= 4);
+    let charged = (line.kind == 20) & (line.unit == 1) & listed;
+    let lost = (line.kind == 21) & (line.unit == 1) & listed;
+    let other = (line.kind == 22) & (line.unit == 1) & (line.code == 0) & (line.b == WHOLE);
+    let content = line.a;
+    let calcined = line.b;
+    let factor = carbonate_factor(line.code);
+    let carbonate = Kind::CarbonateCharged {
+        share: content,
+        factor,
+        calcined,
+    };
+    let dust = Kind::KilnDust {
+        share: content,
+        factor,
+        calcined,
+    };
+    let third = line_if(
+        line,
+        other,
+        Kind::OtherCarbon { carbon: content },
+        Decoded::Bad,
+    );
+    let second = line_if(line, lost, dust, third);
+    line_if(line, charged, carbonate, second)
+}
+
+fn decode_nitric_acid(parameter: u64, line: RawLine) -> Decoded
+    requires { ⌜ InRanges line ⌝ }
+    ensures { λ r. ⌜ (r ≡ nitricAcid parameter line) × LineFits r ⌝ }
+{
+    let listed = (1 <= parameter) & (parameter <= 6);
+    let made = (line.kind == 30)
+        & (line.unit == 1)
+        & (line.code == 0)
+        & (line.a == 0)
+        & (line.b == 0)
+        & listed;
+    let factor = acid_factor(parameter);
+    line_if(line, made, Kind::NitricAcid { factor }, Decoded::Bad)
+}
+
+fn decode_by_method(method: u64, parameter: u64, line: RawLine) -> Decoded
+    requires { ⌜ InRanges line ⌝ }
+    ensures { λ r. ⌜ (r ≡ byMethod method parameter line) × LineFits r ⌝ }
+{
+    match method {
+        1 => decode_fuel(line),
+        2 => decode_flare(line),
+        3 => decode_metals(line),
+        4 => decode_petrochemical(parameter, line),
+        5 => decode_cement(line),
+        6 => decode_nitric_acid(parameter, line),
+        _ => Decoded::Bad,
+    }
+}
+
+// The largest A of a unit.
+fn most_content(unit: u64) -> u64
+    ensures { λ r. ⌜ r ≡ mostContent unit ⌝ }
+{
+    if unit == 1 {
+        return 1000000;
+    }
+    99999999
+}
+
+fn is_in_range(line: RawLine) -> bool
+    ensures { λ r. ⌜ r ≡ inRange line ⌝ }
+{
+    let most = most_content(line.unit);
+    (line.q <= 10000000000) & (line.a <= most) & (line.b <= WHOLE)
+}
+
+// A raw line of a method and parameter, read to its kind, or bad.
+pub fn decode(method: u64, parameter: u64, line: RawLine) -> Decoded
+    ensures { λ r. ⌜ (r ≡ decoded method parameter line) × LineFits r ⌝ }
+{
+    let sound = is_in_range(line);
+    if sound {
+        return decode_by_method(method, parameter, line);
+    }
+    Decoded::Bad
+}
+
+// CO2 of a content, of the share of it that counts, and of its factor: that of carbon, or that of a carbonate.
+fn co2_term(takes: bool, content: u64, share: u64, factor: u64) -> Term
+    requires { ⌜ (content ≤ mostA) × (share ≤ whole) × (factor ≤ carbonFactor) ⌝ }
+    ensures { λ r. ⌜ Weighs (λ q. contributed takes carbonDioxide (q * content * share * factor)) r ⌝ }
+{
+    Term {
+        gas: CARBON_DIOXIDE,
+        takes,
+        content,
+        factor: share * factor,
+    }
+}
+
+// What a line of a kind adds to or takes from the sum of its gas, for each unit of its quantity.
+pub fn term_of(kind: Kind) -> Term
+    requires { ⌜ KindFits kind ⌝ }
+    ensures { λ r. ⌜ Weighs (λ q. contribution q kind) r ⌝ }
+{
+    match kind {
+        Kind::Fuel { carbon, oxidised } => co2_term(false, carbon, oxidised, CO2_OF_CARBON),
+        Kind::FlareCarbon { carbon, unburned } => co2_term(
+            false,
+            carbon,
+            WHOLE - unburned,
+            CO2_OF_CARBON,
+        ),
+        Kind::FlareMethane { methane, unburned } => Term {
+            gas: METHANE,
+            takes: false,
+            content: methane,
+            factor: unburned,
+        },
+        Kind::MetalIn { carbon } => co2_term(false, carbon, WHOLE, CO2_OF_CARBON),
+        Kind::MetalOut { carbon } => co2_term(true, carbon, WHOLE, CO2_OF_CARBON),
+        Kind::OpeningStock { carbon } => co2_term(false, carbon, WHOLE, CO2_OF_CARBON),
+        Kind::ClosingStock { carbon } => co2_term(true, carbon, WHOLE, CO2_OF_CARBON),
+        Kind::Feed { carbon } => co2_term(false, carbon, WHOLE, CO2_OF_CARBON),
+        Kind::Product { carbon } => co2_term(true, carbon, WHOLE, CO2_OF_CARBON),
+        Kind::ByProduct { carbon } => co2_term(true, carbon, WHOLE, CO2_OF_CARBON),
+        Kind::CarbonateCharged {
+            share,
+            factor,
+            calcined,
+        } => co2_term(false, share, calcined, factor),
+        Kind::KilnDust {
+            share,
+            factor,
+            calcined,
+        } => co2_term(true, share, WHOLE - calcined, factor),
+        Kind::OtherCarbon { carbon } => co2_term(false, carbon, WHOLE, CO2_OF_CARBON),
+        Kind::NitricAcid { factor } => Term {
+            gas: NITROUS_OXIDE,
+            takes: false,
+            content: factor,
+            factor: 1,
+        },
+    }
+}
