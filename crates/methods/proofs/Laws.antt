@@ -3,7 +3,7 @@ use mathlib.Core.Bool.{Bool, true, false, cond, _&&_}
 use mathlib.Core.List.{List, [], _∷_}
 use mathlib.Core.Path.{_≡_, refl, sym, ap}
 use Prim.Native.Nat.{ℕ, zero, suc, _*_, _≤_, _<_}
-use native.Mathlib.Nat.{le-of-suc-le-suc, mul-assoc, mul-one, mul-le-mul}
+use native.Mathlib.Nat.{le-of-suc-le-suc, mul-assoc, mul-le-mul}
 use native.Mathlib.Omega.{arith}
 use lib.Dec.{T, leb, eqb}
 use lib.ListN.{length, getD, List·getD-eq-default}
@@ -11,10 +11,9 @@ use mir.Facts.{and-yes, leb-yes}
 use mir.Syntax.{w64}
 use mir.Val.{Fits}
 use Rattle.meaning.specs.declared.RawLine.{RawLine}
-use Rattle.meaning.specs.declared.Kind.the-variants.{FlareMethane, NitricAcid}
 use Rattle.meaning.specs.Methods.{within, whole, mostContent, inRange}
-use Rattle.meaning.specs.Masses.{carbonDioxide, methane, nitrousOxide, adding, contribution}
-use Rattle.methods.specs.Ranges.{Entry, InRanges, mostQuantity, mostA, carbonFactor, mostAcid}
+use Rattle.meaning.specs.Masses.{carbonDioxide}
+use Rattle.methods.specs.Ranges.{Entry, InRanges, mostQuantity, mostA, carbonFactor}
 use Rattle.methods.specs.Terms.{Weighs, contributed, mostFactor}
 
 -- each entry of a table is within two bounds: one computed test
@@ -66,13 +65,3 @@ module _ {content share factor : ℕ} (h : (content ≤ mostA) × (share ≤ who
         content = h .0;
         factor = share-fits;
       }
-
-pub methane-weighs : {content unburned : ℕ} → (content ≤ mostA) × (unburned ≤ whole)
-    → Weighs (λ q. contribution q (FlareMethane content unburned)) (record { gas = methane; takes = false; content = content; factor = unburned })
-methane-weighs h = record { sum = λ q. refl; gas = omega arith; content = h .0; factor = omega (arith, h .1) }
-
--- the acid's factor is the content
-pub acid-weighs : {factor : ℕ} → factor ≤ mostAcid
-    → Weighs (λ q. contribution q (NitricAcid factor)) (record { gas = nitrousOxide; takes = false; content = factor; factor = 1 })
-acid-weighs {factor} h =
-    record { sum = λ q. ap (adding nitrousOxide) (sym (mul-one (q * factor))); gas = omega arith; content = omega arith; factor = omega arith }

@@ -1,10 +1,11 @@
 // Document 01, "Methods and their lines": a line read to its kind, and a kind as what it adds to or takes from a gas.
+ghost use mathlib.Core.Bool.{false};
 ghost use mathlib.Core.Path.{_≡_};
 ghost use Prim.Native.Nat.{_*_, _≤_, _<_};
 ghost use Rattle.meaning.specs.Methods.{whole, carbonates, acids, balanced, mostContent, inRange, given, fuel, flare, metals, petrochemical, cement, nitricAcid, byMethod, decoded};
-ghost use Rattle.meaning.specs.Masses.{warming, gasCount, carbonDioxide, contribution};
+ghost use Rattle.meaning.specs.Masses.{warming, gasCount, carbonDioxide, co2OfCarbon, contribution};
 ghost use Rattle.methods.specs.Ranges.{Entry, InRanges, KindFits, LineFits, mostA, carbonFactor, mostAcid};
-ghost use Rattle.methods.specs.Terms.{Weighs, contributed};
+ghost use Rattle.methods.specs.Terms.{Weighs, contributed, mostFactor};
 use meaning::Decoded;
 use meaning::Kind;
 use meaning::Line;
@@ -244,7 +245,20 @@ pub fn decode(method: u64, parameter: u64, line: RawLine) -> Decoded
     Decoded::Bad
 }
 
-// CO2 of a content, of the share of it that counts, and of its factor: that of carbon, or that of a carbonate.
+// A gas that is added: a content times a factor.
+fn gas_term(gas: u64, content: u64, factor: u64) -> Term
+    requires { ⌜ (gas < gasCount) × (content ≤ mostA) × (factor ≤ mostFactor) ⌝ }
+    ensures { λ r. ⌜ Weighs (λ q. contributed false gas (q * content * factor)) r ⌝ }
+{
+    Term {
+        gas,
+        takes: false,
+        content,
+        factor,
+    }
+}
+
+// CO2 of a content, of the share of it that counts, and of the factor of CO2.
 fn co2_term(takes: bool, content: u64, share: u64, factor: u64) -> Term
     requires { ⌜ (content ≤ mostA) × (share ≤ whole) × (factor ≤ carbonFactor) ⌝ }
     ensures { λ r. ⌜ Weighs (λ q. contributed takes carbonDioxide (q * content * share * factor)) r ⌝ }
@@ -257,32 +271,30 @@ fn co2_term(takes: bool, content: u64, share: u64, factor: u64) -> Term
     }
 }
 
+// Carbon becomes CO2 here, and nowhere else.
+fn carbon_term(takes: bool, carbon: u64, share: u64) -> Term
+    requires { ⌜ (carbon ≤ mostA) × (share ≤ whole) ⌝ }
+    ensures { λ r. ⌜ Weighs (λ q. contributed takes carbonDioxide (co2OfCarbon (q * carbon * share))) r ⌝ }
+{
+    co2_term(takes, carbon, share, CO2_OF_CARBON)
+}
+
 // What a line of a kind adds to or takes from the sum of its gas, for each unit of its quantity.
 pub fn term_of(kind: Kind) -> Term
     requires { ⌜ KindFits kind ⌝ }
     ensures { λ r. ⌜ Weighs (λ q. contribution q kind) r ⌝ }
 {
     match kind {
-        Kind::Fuel { carbon, oxidised } => co2_term(false, carbon, oxidised, CO2_OF_CARBON),
-        Kind::FlareCarbon { carbon, unburned } => co2_term(
-            false,
-            carbon,
-            WHOLE - unburned,
-            CO2_OF_CARBON,
-        ),
-        Kind::FlareMethane { methane, unburned } => Term {
-            gas: METHANE,
-            takes: false,
-            content: methane,
-            factor: unburned,
-        },
-        Kind::MetalIn { carbon } => co2_term(false, carbon, WHOLE, CO2_OF_CARBON),
-        Kind::MetalOut { carbon } => co2_term(true, carbon, WHOLE, CO2_OF_CARBON),
-        Kind::OpeningStock { carbon } => co2_term(false, carbon, WHOLE, CO2_OF_CARBON),
-        Kind::ClosingStock { carbon } => co2_term(true, carbon, WHOLE, CO2_OF_CARBON),
-        Kind::Feed { carbon } => co2_term(false, carbon, WHOLE, CO2_OF_CARBON),
-        Kind::Product { carbon } => co2_term(true, carbon, WHOLE, CO2_OF_CARBON),
-        Kind::ByProduct { carbon } => co2_term(true, carbon, WHOLE, CO2_OF_CARBON),
+        Kind::Fuel { carbon, oxidised } => carbon_term(false, carbon, oxidised),
+        Kind::FlareCarbon { carbon, unburned } => carbon_term(false, carbon, WHOLE - unburned),
+        Kind::FlareMethane { methane, unburned } => gas_term(METHANE, methane, unburned),
+        Kind::MetalIn { carbon } => carbon_term(false, carbon, WHOLE),
+        Kind::MetalOut { carbon } => carbon_term(true, carbon, WHOLE),
+        Kind::OpeningStock { carbon } => carbon_term(false, carbon, WHOLE),
+        Kind::ClosingStock { carbon } => carbon_term(true, carbon, WHOLE),
+        Kind::Feed { carbon } => carbon_term(false, carbon, WHOLE),
+        Kind::Product { carbon } => carbon_term(true, carbon, WHOLE),
+        Kind::ByProduct { carbon } => carbon_term(true, carbon, WHOLE),
         Kind::CarbonateCharged {
             share,
             factor,
@@ -293,12 +305,7 @@ pub fn term_of(kind: Kind) -> Term
             factor,
             calcined,
         } => co2_term(true, share, WHOLE - calcined, factor),
-        Kind::OtherCarbon { carbon } => co2_term(false, carbon, WHOLE, CO2_OF_CARBON),
-        Kind::NitricAcid { factor } => Term {
-            gas: NITROUS_OXIDE,
-            takes: false,
-            content: factor,
-            factor: 1,
-        },
+        Kind::OtherCarbon { carbon } => carbon_term(false, carbon, WHOLE),
+        Kind::NitricAcid { factor } => gas_term(NITROUS_OXIDE, factor, 1),
     }
 }

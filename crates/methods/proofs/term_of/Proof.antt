@@ -1,5 +1,5 @@
 use borrow.Author.Needs.{needs}
-use Rattle.methods.proofs.Laws.{methane-weighs, acid-weighs}
+use native.Mathlib.Nat.{mul-one}
 use Rattle.methods.proofs.term_of.Statement.{statement}
 use Rattle.methods.proofs.term_of.Tie as tie
 
@@ -13,6 +13,7 @@ term-of-spec =
     (λ c. let h = rw (c .before .kind2 .given .1) at (c .before .before .before .pre) in search needs)
     (λ c κs. let h = rw (c .before .kind2 .given .1) at (c .before .before .before .pre) in search needs)
     (search needs)
+    (λ c κs. let h = rw (c .before .kind3 .given .1) at (c .before .before .before .pre) in search needs)
     (search needs)
     (λ c κs. let h = rw (c .before .kind4 .given .1) at (c .before .before .before .pre) in search needs)
     (search needs)
@@ -35,17 +36,18 @@ term-of-spec =
     (search needs)
     (λ c κs. let h = rw (c .before .kind13 .given .1) at (c .before .before .before .pre) in search needs)
     (search needs)
-    (λ c. rw (c .before .before .kind .given .1) (c .co2-term .ensures))
-    (λ c. rw (c .before .before .kind2 .given .1) (c .co2-term2 .ensures))
-    (λ c. rw (c .before .kind3 .given .1) (methane-weighs (rw (c .before .kind3 .given .1) at (c .before .before .before .pre))))
-    (λ c. rw (c .before .before .kind4 .given .1) (c .co2-term3 .ensures))
-    (λ c. rw (c .before .before .kind5 .given .1) (c .co2-term4 .ensures))
-    (λ c. rw (c .before .before .kind6 .given .1) (c .co2-term5 .ensures))
-    (λ c. rw (c .before .before .kind7 .given .1) (c .co2-term6 .ensures))
-    (λ c. rw (c .before .before .kind8 .given .1) (c .co2-term7 .ensures))
-    (λ c. rw (c .before .before .kind9 .given .1) (c .co2-term8 .ensures))
-    (λ c. rw (c .before .before .kind10 .given .1) (c .co2-term9 .ensures))
-    (λ c. rw (c .before .before .kind11 .given .1) (c .co2-term10 .ensures))
-    (λ c. rw (c .before .before .kind12 .given .1) (c .co2-term11 .ensures))
-    (λ c. rw (c .before .before .kind13 .given .1) (c .co2-term12 .ensures))
-    (λ c. rw (c .before .kind14 .given .1) (acid-weighs (rw (c .before .kind14 .given .1) at (c .before .before .before .pre)))))
+    (λ c κs. let h = rw (c .before .kind14 .given .1) at (c .before .before .before .pre) in search needs)
+    (λ c. rw (c .before .before .kind .given .1) (c .carbon-term .ensures))
+    (λ c. rw (c .before .before .kind2 .given .1) (c .carbon-term2 .ensures))
+    (λ c. rw (c .before .before .kind3 .given .1) (c .gas-term .ensures))
+    (λ c. rw (c .before .before .kind4 .given .1) (c .carbon-term3 .ensures))
+    (λ c. rw (c .before .before .kind5 .given .1) (c .carbon-term4 .ensures))
+    (λ c. rw (c .before .before .kind6 .given .1) (c .carbon-term5 .ensures))
+    (λ c. rw (c .before .before .kind7 .given .1) (c .carbon-term6 .ensures))
+    (λ c. rw (c .before .before .kind8 .given .1) (c .carbon-term7 .ensures))
+    (λ c. rw (c .before .before .kind9 .given .1) (c .carbon-term8 .ensures))
+    (λ c. rw (c .before .before .kind10 .given .1) (c .carbon-term9 .ensures))
+    (λ c. rw (c .before .before .kind11 .given .1) (c .co2-term .ensures))
+    (λ c. rw (c .before .before .kind12 .given .1) (c .co2-term2 .ensures))
+    (λ c. rw (c .before .before .kind13 .given .1) (c .carbon-term10 .ensures))
+    (λ c. rw (c .before .before .kind14 .given .1) (simp mul-one at (c .gas-term2 .ensures))))
