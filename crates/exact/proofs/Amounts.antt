@@ -1,0 +1,65 @@
+-- Amounts are ordered as their values, and no register leaves 64 bits. Assumes nothing.
+use mathlib.Core.Bool.{Bool, true, false}
+use mathlib.Core.Path.{_≡_, refl, sym, ap}
+use native.Mathlib.Decide.{decLt}
+use Prim.Native.Nat.{ℕ, _+_, _*_, _/_, _%_, _≤_, _<_}
+use native.Mathlib.Nat.{mul-le-mul, div-add-mod'}
+use native.Mathlib.Omega.{arith}
+use borrow.Author.Tests.{ltb-true, ltb-false, lt-ltb, le-ltb}
+use lib.Dec.{ltb}
+use Rattle.meaning.specs.Register.{mostLines}
+use Rattle.exact.specs.declared.Amount.{Amount}
+use Rattle.exact.specs.Amounts.{gram, value, nothing, mostQuantity, mostContent, mostFactor, perLine, Ranged, Room, Added, Subtracted}
+
+-- two comparisons that hold and fail together are one
+ltb-same : (a b c d : ℕ) → (a < b → c < d) → (b ≤ a → d ≤ c) → ltb a b ≡ ltb c d
+ltb-same a b c d f g = by (ltb a b) refl
+  where
+    by : (t : Bool) → ltb a b ≡ t → t ≡ ltb c d
+    by true e = sym (lt-ltb c d (f (ltb-true a b e)))
+    by false e = sym (le-ltb c d (g (ltb-false a b e)))
+
+-- equal grams are told apart by their parts
+pub below-in-part : (a b : Amount) → a .whole ≡ b .whole → ltb (a .part) (b .part) ≡ ltb (value a) (value b)
+unfolding value
+below-in-part a b e = ltb-same (a .part) (b .part) (value a) (value b) (λ h. omega arith) (λ h. omega arith)
+
+-- and others by their grams
+pub below-in-whole : (a b : Amount) → a .part < gram → b .part < gram → (a .whole ≡ b .whole → ⊥) → ltb (a .whole) (b .whole) ≡ ltb (value a) (value b)
+unfolding value
+below-in-whole a b p q e = ltb-same (a .whole) (b .whole) (value a) (value b) (λ h. omega arith) (λ h. omega arith)
+
+pub value-nothing : value nothing ≡ 0
+unfolding value
+value-nothing = refl
+
+-- the sums of a register begin with room for all the lines that it may have
+pub room-first : Room mostLines nothing
+room-first = record { part-fits = omega arith; whole-fits = omega arith }
+
+pub room-less : {lines fewer : ℕ} {a : Amount} → Room lines a → fewer ≤ lines → Room fewer a
+room-less r h = record { part-fits = r .part-fits; whole-fits = omega (arith, r .whole-fits) }
+
+-- a line takes one line's room
+pub room-next : {lines fewer n : ℕ} {a s : Amount} → Room lines a → Added a n s → fewer < lines → Room fewer s
+room-next r s h = record { part-fits = s .part-fits; whole-fits = omega (arith, r .whole-fits, s .whole-fits) }
+
+pub room-left : {lines : ℕ} {a b s : Amount} → Room lines a → Subtracted a b s → Room lines s
+room-left r s = record { part-fits = s .part-fits; whole-fits = omega (arith, r .whole-fits, s .whole-fits) }
+
+-- the largest register, each of its lines with the largest numbers, stays in 64 bits, rounded too
+pub largest-register : (a : Amount) → a .part < gram → value a ≡ mostLines * (mostQuantity * mostContent * mostFactor) → Room 0 a
+unfolding value
+largest-register a p e = record { part-fits = p; whole-fits = omega arith }
+
+-- a line's product, parted by the gram before it is multiplied by its last factor: still the product, and at most a line's grams
+pub record Parted (q content factor high low : ℕ) : Type 0 where
+  pub is : high * gram + low ≡ q * content * factor
+  pub fits : q * content * factor ≤ perLine * gram
+
+pub parted : {q content factor : ℕ} (p : ℕ) → Ranged q content factor → p ≡ q * content → Parted q content factor (factor * (p / gram)) (p % gram * factor)
+parted {q} {content} {factor} p r e =
+    record {
+      is = omega (arith, ap (λ (n : ℕ). n * factor) e, ap (λ (n : ℕ). n * factor) (div-add-mod' p gram));
+      fits = mul-le-mul (mul-le-mul (r .quantity-fits) (r .content-fits)) (r .factor-fits);
+    }

@@ -1,0 +1,4 @@
+pub mod Tables
+pub mod Scales
+pub mod Amounts
+pub mod Equivalents

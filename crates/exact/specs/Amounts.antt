@@ -1,0 +1,68 @@
+-- Exact amounts: grams and ten-billionths of a gram, the scale of CO2's divisor, for every gas. Assumes nothing.
+use mathlib.Core.List.{List, [], _∷_, map}
+use mathlib.Core.Path.{_≡_}
+use Prim.Native.Nat.{ℕ, _+_, _*_, _-_, _/_, _^_, _≤_, _<_}
+use lib.ListN.{getD}
+use Rattle.meaning.specs.Masses.{divisors}
+use Rattle.exact.specs.declared.Amount.{Amount}
+
+-- the ten-billionths of a gram: "For CO2, grams are N / 10^10"
+abbrev pub gram : ℕ
+gram = 10 ^ 10
+
+-- an amount in ten-billionths. Shut, for `omega` breaks off at numbers of more than 38 digits.
+unfoldable pub value : Amount → ℕ
+value a = a .whole * gram + a .part
+
+abbrev pub nothing : Amount
+nothing = record { whole = 0; part = 0 }
+
+-- what one unit of a gas's N is in ten-billionths of a gram, by gas
+abbrev pub scales : List ℕ
+scales = map (λ d. gram / d) divisors
+
+abbrev pub scale : ℕ → ℕ
+scale gas = getD scales gas 0
+
+-- "Q is 0 to 10,000,000,000"
+abbrev pub mostQuantity : ℕ
+mostQuantity = 10000000000
+
+-- "A is in millionths: .. at most 99,999,999", which no factor of the nitric acid passes
+abbrev pub mostContent : ℕ
+mostContent = 99999999
+
+-- what Q and a content are multiplied by at most, by gas: B 3664; B; nothing more than f, which is the nitric acid's content here
+abbrev pub mostFactors : List ℕ
+mostFactors = 10000 * 3664 ∷ 10000 ∷ 1 ∷ []
+
+-- the same in ten-billionths, for any gas
+abbrev pub mostFactor : ℕ
+mostFactor = 36640000
+
+-- the numbers of a line that are multiplied
+pub record Ranged (q content factor : ℕ) : Type 0 where
+  pub quantity-fits : q ≤ mostQuantity
+  pub content-fits : content ≤ mostContent
+  pub factor-fits : factor ≤ mostFactor
+
+-- the grams that a line adds at most
+abbrev pub perLine : ℕ
+perLine = mostContent * mostFactor
+
+-- so many more lines, and a rounding after them, keep the amount in 64 bits
+pub record Room (lines : ℕ) (a : Amount) : Type 0 where
+  pub part-fits : a .part < gram
+  pub whole-fits : a .whole + perLine * lines + 1 < 2 ^ 64
+
+-- r is a with n more
+pub record Added (a : Amount) (n : ℕ) (r : Amount) : Type 0 where
+  pub is : value r ≡ value a + n
+  pub part-fits : r .part < gram
+  pub whole-fits : r .whole ≤ a .whole + perLine
+
+-- r is what is left of a without b
+pub record Subtracted (a b r : Amount) : Type 0 where
+  pub is : value r ≡ value a - value b
+  pub part-fits : r .part < gram
+  pub whole-fits : r .whole ≤ a .whole
