@@ -1,7 +1,6 @@
 -- Amounts are ordered as their values, and no register leaves 64 bits. Assumes nothing.
 use mathlib.Core.Bool.{Bool, true, false}
 use mathlib.Core.Path.{_≡_, refl, sym, ap}
-use native.Mathlib.Decide.{decLt}
 use Prim.Native.Nat.{ℕ, _+_, _*_, _/_, _%_, _≤_, _<_}
 use native.Mathlib.Nat.{mul-le-mul, div-add-mod'}
 use native.Mathlib.Omega.{arith}
@@ -9,7 +8,7 @@ use borrow.Author.Tests.{ltb-true, ltb-false, lt-ltb, le-ltb}
 use lib.Dec.{ltb}
 use Rattle.meaning.specs.Register.{mostLines}
 use Rattle.exact.specs.declared.Amount.{Amount}
-use Rattle.exact.specs.Amounts.{gram, value, nothing, mostQuantity, mostContent, mostFactor, perLine, Ranged, Room, Added, Subtracted}
+use Rattle.exact.specs.Amounts.{gram, value, nothing, mostQuantity, mostContent, mostFactor, Ranged, OfLine, Room, Added, Subtracted}
 
 -- two comparisons that hold and fail together are one
 ltb-same : (a b c d : ℕ) → (a < b → c < d) → (b ≤ a → d ≤ c) → ltb a b ≡ ltb c d
@@ -47,19 +46,20 @@ room-next r s h = record { part-fits = s .part-fits; whole-fits = omega (arith, 
 pub room-left : {lines : ℕ} {a b s : Amount} → Room lines a → Subtracted a b s → Room lines s
 room-left r s = record { part-fits = s .part-fits; whole-fits = omega (arith, r .whole-fits, s .whole-fits) }
 
--- the largest register, each of its lines with the largest numbers, stays in 64 bits, rounded too
-pub largest-register : (a : Amount) → a .part < gram → value a ≡ mostLines * (mostQuantity * mostContent * mostFactor) → Room 0 a
+-- what the largest register comes to, each of its lines with the largest numbers, stays in 64 bits, rounded too
+pub largest-register : (a : Amount) → a .part < gram → value a ≤ mostLines * (mostQuantity * mostContent * mostFactor) → Room 0 a
 unfolding value
 largest-register a p e = record { part-fits = p; whole-fits = omega arith }
 
--- a line's product, parted by the gram before it is multiplied by its last factor: still the product, and at most a line's grams
-pub record Parted (q content factor high low : ℕ) : Type 0 where
-  pub is : high * gram + low ≡ q * content * factor
-  pub fits : q * content * factor ≤ perLine * gram
-
-pub parted : {q content factor : ℕ} (p : ℕ) → Ranged q content factor → p ≡ q * content → Parted q content factor (factor * (p / gram)) (p % gram * factor)
-parted {q} {content} {factor} p r e =
+-- a line's product that was parted by the gram before its last factor is the product still
+pub line-parted : {q content factor p high low : ℕ} → Ranged q content factor → p ≡ q * content → high ≡ factor * (p / gram) → low ≡ p % gram * factor
+    → OfLine (q * content * factor) (record { whole = high + low / gram; part = low % gram })
+unfolding value
+line-parted {q} {content} {factor} {p} r e f g =
+    let m = ap (λ (n : ℕ). n * factor) e in
+    let d = ap (λ (n : ℕ). n * factor) (div-add-mod' p gram) in
     record {
-      is = omega (arith, ap (λ (n : ℕ). n * factor) e, ap (λ (n : ℕ). n * factor) (div-add-mod' p gram));
+      is = omega arith;
+      part-fits = omega arith;
       fits = mul-le-mul (mul-le-mul (r .quantity-fits) (r .content-fits)) (r .factor-fits);
     }

@@ -1,15 +1,14 @@
--- One scale serves every gas: grams of N over a gas's own divisor are grams of N on the scale of CO2's. Assumes nothing.
-use mathlib.Core.Bool.{Bool, true}
+-- One scale serves every gas: N over a gas's own divisor is as many grams as N in ten-billionths of a gram. Assumes nothing.
 use mathlib.Core.List.{List}
-use mathlib.Core.Path.{_≡_, refl, sym, _∙_}
-use Prim.Native.Nat.{ℕ, _+_, _*_, _-_, _/_, _≤_, _<_}
-use native.Mathlib.Nat.{mul-assoc, add-mul, mul-div-mul-right, mul-le-mul-right, mul-comm, mul-sub}
+use mathlib.Core.Path.{_≡_, refl, sym}
+use Prim.Native.Nat.{ℕ, _+_, _*_, _-_, _≤_, _<_}
+use native.Mathlib.Nat.{mul-one, mul-assoc, mul-comm, mul-sub, add-mul, mul-div-mul-right, mul-le-mul-right}
 use native.Mathlib.Omega.{arith}
 use borrow.Author.Tests.{leb-true, eqb-true}
 use lib.Dec.{eqb, leb, ltb}
-use lib.ListN.{length, getD}
+use lib.ListN.{getD}
 use Rattle.meaning.specs.declared.Decoded.{Decoded}
-use Rattle.meaning.specs.Masses.{divisors, warming, gasCount, added, taken, rounded, mass}
+use Rattle.meaning.specs.Masses.{divisors, carbonDioxide, gasCount, warming, added, taken, belowZero, rounded, mass}
 use Rattle.exact.specs.Amounts.{gram, scales, scale, mostFactor, mostFactors}
 use Rattle.exact.proofs.Tables.{passes, passes-at}
 
@@ -20,9 +19,9 @@ rounded-scaled n d s h = rw (← mul-assoc 2 n s, ← mul-assoc 2 d s, ← add-m
 sub-mul : (m n k : ℕ) → m * k - n * k ≡ (m - n) * k
 sub-mul m n k = rw (mul-comm m k, mul-comm n k, mul-comm (m - n) k) (sym (mul-sub k m n))
 
+-- what holds at each gas, by a test that is computed over its table
 module _ (gas : ℕ) (h : gas < gasCount) where
-  -- computed at each gas: its divisor times its scale is a gram
-  pub divisor-scaled : getD divisors gas 1 * scale gas ≡ gram
+  divisor-scaled : getD divisors gas 1 * scale gas ≡ gram
   unfolding passes
   divisor-scaled = eqb-true _ _ (passes-at (λ i d. eqb (d * scale i) gram) divisors 1 refl gas h)
 
@@ -30,21 +29,25 @@ module _ (gas : ℕ) (h : gas < gasCount) where
   unfolding passes
   scale-above-zero = leb-true _ _ (passes-at (λ i s. leb 1 s) scales 0 refl gas h)
 
-  -- the largest factor of each gas, scaled
+  pub warming-above-zero : 0 < getD warming gas 0
+  unfolding passes
+  warming-above-zero = leb-true _ _ (passes-at (λ i w. leb 1 w) warming 0 refl gas h)
+
   pub factor-scaled : (factor : ℕ) → factor ≤ getD mostFactors gas 0 → factor * scale gas ≤ mostFactor
   unfolding passes
   factor-scaled factor l =
       let m : getD mostFactors gas 0 * scale gas ≤ mostFactor = leb-true _ _ (passes-at (λ i f. leb (f * scale i) mostFactor) mostFactors 0 refl gas h) in
       omega (arith, mul-le-mul-right (scale gas) l)
 
-  -- the exact sums in ten-billionths of a gram round to the mass
+  pub grams-scaled : (n : ℕ) → rounded (n * scale gas) gram ≡ rounded n (getD divisors gas 1)
+  grams-scaled n = rw divisor-scaled at (rounded-scaled n (getD divisors gas 1) (scale gas) scale-above-zero)
+
+  -- the mass of a source's lines, from its sums in ten-billionths of a gram
   pub mass-scaled : (ls : List Decoded) → rounded (added gas ls * scale gas - taken gas ls * scale gas) gram ≡ mass ls gas
   unfolding mass
-  mass-scaled ls =
-      let n = added gas ls - taken gas ls in
-      let e : added gas ls * scale gas - taken gas ls * scale gas ≡ n * scale gas = sub-mul (added gas ls) (taken gas ls) (scale gas) in
-      rw e (rw divisor-scaled at (rounded-scaled n (getD divisors gas 1) (scale gas) scale-above-zero))
+  mass-scaled ls = rw (sub-mul (added gas ls) (taken gas ls) (scale gas)) (grams-scaled (added gas ls - taken gas ls))
 
-  pub warming-above-zero : 0 < getD warming gas 0
-  unfolding passes
-  warming-above-zero = leb-true _ _ (passes-at (λ i w. leb 1 w) warming 0 refl gas h)
+pub below-zero-scaled : (ls : List Decoded)
+    → ltb (added carbonDioxide ls * scale carbonDioxide) (taken carbonDioxide ls * scale carbonDioxide) ≡ belowZero ls
+unfolding belowZero
+below-zero-scaled ls = simp mul-one

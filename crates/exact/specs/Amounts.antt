@@ -3,7 +3,9 @@ use mathlib.Core.List.{List, [], _∷_, map}
 use mathlib.Core.Path.{_≡_}
 use Prim.Native.Nat.{ℕ, _+_, _*_, _-_, _/_, _^_, _≤_, _<_}
 use lib.ListN.{getD}
-use Rattle.meaning.specs.Masses.{divisors}
+use Rattle.meaning.specs.Methods
+use Rattle.meaning.specs.Methods.{whole}
+use Rattle.meaning.specs.Masses.{divisors, co2OfCarbon}
 use Rattle.exact.specs.declared.Amount.{Amount}
 
 -- the ten-billionths of a gram: "For CO2, grams are N / 10^10"
@@ -28,27 +30,33 @@ scale gas = getD scales gas 0
 abbrev pub mostQuantity : ℕ
 mostQuantity = 10000000000
 
--- "A is in millionths: .. at most 99,999,999", which no factor of the nitric acid passes
+-- "at most 1,000,000 where the unit is tonne, else at most 99,999,999": the larger, of unit 2. The nitric acid has its f for a content.
 abbrev pub mostContent : ℕ
-mostContent = 99999999
+mostContent = Methods.mostContent 2
 
--- what Q and a content are multiplied by at most, by gas: B 3664; B; nothing more than f, which is the nitric acid's content here
+-- what Q and the content are multiplied by at most, by gas: B 3664 for CO2, B for CH4, 1 for N2O
 abbrev pub mostFactors : List ℕ
-mostFactors = 10000 * 3664 ∷ 10000 ∷ 1 ∷ []
+mostFactors = co2OfCarbon whole ∷ whole ∷ 1 ∷ []
 
--- the same in ten-billionths, for any gas
+-- the largest of any gas, in ten-billionths of a gram
 abbrev pub mostFactor : ℕ
-mostFactor = 36640000
+mostFactor = co2OfCarbon whole
 
--- the numbers of a line that are multiplied
+-- the numbers of a line whose product it adds
 pub record Ranged (q content factor : ℕ) : Type 0 where
   pub quantity-fits : q ≤ mostQuantity
   pub content-fits : content ≤ mostContent
   pub factor-fits : factor ≤ mostFactor
 
--- the grams that a line adds at most
+-- the grams that a line adds at most, for Q at most the ten-billionths of a gram
 abbrev pub perLine : ℕ
 perLine = mostContent * mostFactor
+
+-- an amount that is a line's n
+pub record OfLine (n : ℕ) (a : Amount) : Type 0 where
+  pub is : value a ≡ n
+  pub part-fits : a .part < gram
+  pub fits : n ≤ perLine * gram
 
 -- so many more lines, and a rounding after them, keep the amount in 64 bits
 pub record Room (lines : ℕ) (a : Amount) : Type 0 where

@@ -5,17 +5,20 @@ ghost use Prim.Native.Nat.{_+_, _*_, _≤_, _<_};
 ghost use lib.Dec.{ltb};
 ghost use lib.ListN.{getD};
 ghost use Rattle.meaning.specs.Masses.{warming, gasCount, rounded};
-ghost use Rattle.exact.specs.Amounts.{gram, value, mostFactor, mostFactors, scale, Ranged, Room, Added, Subtracted};
+ghost use Rattle.exact.specs.Amounts.{gram, value, mostFactor, mostFactors, scale, Ranged, OfLine, Room, Added, Subtracted};
 ghost use Rattle.exact.specs.Equivalents.{withinLimit};
 
+// The ten-billionths of a gram in a gram.
 const GRAM: u64 = 10000000000;
 
-const GASES: usize = 3;
+pub const GASES: usize = 3;
 
 const SCALES: [u64; GASES] = [1, 1000, 1000000];
 
+// "CO2 + 25 CH4 + 298 N2O"
 const WARMING: [u64; GASES] = [1, 25, 298];
 
+// "at most 10^15 g a source"
 const LIMIT: u64 = 1000000000000000;
 
 // Grams and ten-billionths of a gram.
@@ -24,7 +27,7 @@ pub struct Amount {
     pub part: u64,
 }
 
-// The ten-billionths of a gram in one unit of a gas's sum.
+// What one unit of a gas's exact sum is in ten-billionths of a gram.
 fn scale_of(gas: usize) -> u64
     requires { ⌜ gas < gasCount ⌝ }
     ensures { λ r. ⌜ r ≡ scale gas ⌝ }
@@ -32,7 +35,7 @@ fn scale_of(gas: usize) -> u64
     SCALES[gas]
 }
 
-// What a line's numbers are multiplied by, with the gas's divisor brought to CO2's.
+// A line's factor in ten-billionths of a gram, so that the amounts of all gases are on one scale.
 pub fn scaled(gas: usize, factor: u64) -> u64
     requires { ⌜ (gas < gasCount) × (factor ≤ getD mostFactors gas 0) ⌝ }
     ensures { λ r. ⌜ (r ≡ factor * scale gas) × (r ≤ mostFactor) ⌝ }
@@ -40,7 +43,7 @@ pub fn scaled(gas: usize, factor: u64) -> u64
     factor * scale_of(gas)
 }
 
-// A product whose second number is small.
+// A product of numbers that are small enough for 64 bits, with a bound that its callers count on.
 fn product(a: u64, b: u64) -> u64
     requires { ⌜ (a ≤ 10000000000) × (b ≤ 100000000) ⌝ }
     ensures { λ r. ⌜ (r ≡ a * b) × (r ≤ 100000000 * a) ⌝ }
@@ -48,21 +51,40 @@ fn product(a: u64, b: u64) -> u64
     a * b
 }
 
-// The amount with a line's product: q times content is parted by the gram before it is multiplied on, so that nothing leaves 64 bits.
-pub fn add(a: Amount, q: u64, content: u64, factor: u64) -> Amount
-    requires { ⌜ Room 1 a × Ranged q content factor ⌝ }
-    ensures { λ r. ⌜ Added a (q * content * factor) r ⌝ }
+// What a line comes to. Q times its content is parted by the gram before it is multiplied on, so that no product leaves 64 bits.
+fn line(q: u64, content: u64, factor: u64) -> Amount
+    requires { ⌜ Ranged q content factor ⌝ }
+    ensures { λ r. ⌜ OfLine (q * content * factor) r ⌝ }
 {
     let p = product(q, content);
     let high = product(factor, p / GRAM);
-    let low = product(p % GRAM, factor) + a.part;
+    let low = product(p % GRAM, factor);
     Amount {
-        whole: a.whole + high + low / GRAM,
+        whole: high + low / GRAM,
         part: low % GRAM,
     }
 }
 
-// Whether a is less than b.
+// The amount with what a line comes to.
+pub fn add(a: Amount, q: u64, content: u64, factor: u64) -> Amount
+    requires { ⌜ Room 1 a × Ranged q content factor ⌝ }
+    ensures { λ r. ⌜ Added a (q * content * factor) r ⌝ }
+{
+    let b = line(q, content, factor);
+    let part = a.part + b.part;
+    if part < GRAM {
+        return Amount {
+            whole: a.whole + b.whole,
+            part,
+        };
+    }
+    Amount {
+        whole: a.whole + b.whole + 1,
+        part: part - GRAM,
+    }
+}
+
+// Whether a is less than b, as where a source's sum is below zero.
 pub fn below(a: Amount, b: Amount) -> bool
     requires { ⌜ (a .part < gram) × (b .part < gram) ⌝ }
     ensures { λ r. ⌜ r ≡ ltb (value a) (value b) ⌝ }
@@ -73,7 +95,7 @@ pub fn below(a: Amount, b: Amount) -> bool
     a.whole < b.whole
 }
 
-// What is left of a where b is taken from it.
+// What is left of a without b.
 pub fn subtract(a: Amount, b: Amount) -> Amount
     requires { ⌜ (a .part < gram) × (b .part < gram) × (ltb (value a) (value b) ≡ false) ⌝ }
     ensures { λ r. ⌜ Subtracted a b r ⌝ }
@@ -101,7 +123,7 @@ pub fn round(a: Amount) -> u64
     a.whole + 1
 }
 
-// "at most 10^15 g a source"
+// The equivalent of a source, or that it is above the limit.
 pub enum Weighed {
     Within(u64),
     Above,
@@ -114,7 +136,7 @@ fn warming_of(gas: usize) -> u64
     WARMING[gas]
 }
 
-// The gases one by one, with the room that is left below the limit: a mass is multiplied where its product is known to fit.
+// Gas by gas with the room that is left below the limit: a mass is multiplied only where its product is known to fit the room.
 pub fn equivalent(masses: [u64; GASES]) -> Weighed
     ensures { λ r. ⌜ r ≡ withinLimit masses ⌝ }
 {

@@ -14,19 +14,10 @@ abbrev μ-loop : tie.MeasureT-loop
 pub equivalent-spec : {M : Type 1} → statement M
 equivalent-spec =
     tie.close
-    (tie.spec
-    Inv-loop
-    μ-loop
-    (λ c. search weighing)  -- loop-holds
-    (search needs)  -- warming-of-requires
-    (search needs)  -- mul-mass
-    (search needs)  -- array-read-mass
-    (search needs)  -- div-if1
-    (λ c. search weighing)  -- returns
-    (λ c. search weighing)  -- mul-room
-    (λ c. search weighing)  -- sub-room
-    (search needs)  -- add-gas
-    (search needs)  -- loop-less
-    (λ c. search weighing)  -- loop-again
-    (search needs)  -- sub-t12
-    (λ c. search weighing))  -- returns-2
+    (tie.spec Inv-loop μ-loop (λ c. search weighing)
+    (search needs) (search needs) (search needs) (search needs)
+    (λ c. search weighing) (λ c. search weighing) (λ c. search weighing)
+    (search needs) (search needs)
+    (λ c. search weighing)
+    (search needs)
+    (λ c. search weighing))
