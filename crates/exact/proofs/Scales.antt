@@ -10,7 +10,7 @@ use lib.ListN.{getD}
 use Rattle.meaning.specs.declared.Decoded.{Decoded}
 use Rattle.meaning.specs.Masses.{divisors, carbonDioxide, gasCount, warming, added, taken, belowZero, rounded, mass}
 use Rattle.exact.specs.Amounts.{gram, scales, scale, mostFactor, mostFactors}
-use Rattle.exact.proofs.Tables.{passes, passes-at}
+use Rattle.exact.proofs.Tables.{everywhere-at}
 
 pub rounded-scaled : (n d s : ℕ) → 0 < s → rounded (n * s) (d * s) ≡ rounded n d
 unfolding rounded
@@ -22,21 +22,17 @@ sub-mul m n k = rw (mul-comm m k, mul-comm n k, mul-comm (m - n) k) (sym (mul-su
 -- what holds at each gas, by a test that is computed over its table
 module _ (gas : ℕ) (h : gas < gasCount) where
   divisor-scaled : getD divisors gas 1 * scale gas ≡ gram
-  unfolding passes
-  divisor-scaled = eqb-true _ _ (passes-at (λ i d. eqb (d * scale i) gram) divisors 1 refl gas h)
+  divisor-scaled = eqb-true _ _ (everywhere-at (λ i d. eqb (d * scale i) gram) divisors 1 refl gas h)
 
   scale-above-zero : 0 < scale gas
-  unfolding passes
-  scale-above-zero = leb-true _ _ (passes-at (λ i s. leb 1 s) scales 0 refl gas h)
+  scale-above-zero = leb-true _ _ (everywhere-at (λ i s. leb 1 s) scales 0 refl gas h)
 
   pub warming-above-zero : 0 < getD warming gas 0
-  unfolding passes
-  warming-above-zero = leb-true _ _ (passes-at (λ i w. leb 1 w) warming 0 refl gas h)
+  warming-above-zero = leb-true _ _ (everywhere-at (λ i w. leb 1 w) warming 0 refl gas h)
 
   pub factor-scaled : (factor : ℕ) → factor ≤ getD mostFactors gas 0 → factor * scale gas ≤ mostFactor
-  unfolding passes
   factor-scaled factor l =
-      let m : getD mostFactors gas 0 * scale gas ≤ mostFactor = leb-true _ _ (passes-at (λ i f. leb (f * scale i) mostFactor) mostFactors 0 refl gas h) in
+      let m : getD mostFactors gas 0 * scale gas ≤ mostFactor = leb-true _ _ (everywhere-at (λ i f. leb (f * scale i) mostFactor) mostFactors 0 refl gas h) in
       omega (arith, mul-le-mul-right (scale gas) l)
 
   pub grams-scaled : (n : ℕ) → rounded (n * scale gas) gram ≡ rounded n (getD divisors gas 1)
