@@ -1,13 +1,15 @@
 -- What is said of entries and of lists in the statements. Assumes nothing.
-use mathlib.Core.List.{List, [], _∷_}
+use mathlib.Core.List.{List, [], _∷_, map}
 use mathlib.Core.Bool.{false}
 use mathlib.Core.Logic.{_≢_}
 use mathlib.Core.Path.{_≡_}
 use Prim.Native.Nat.{ℕ, _≤_, _<_, _^_}
 use lib.ListN.{length, take}
-use Rattle.basis.specs.Bytes.{numberAt, ascii}
+use Rattle.basis.specs.Bytes.{numberAt, ascii, Bytes}
+use Rattle.basis.specs.Lists.{joined}
+use Rattle.meaning.specs.declared.RawLine.{RawLine}
 use Rattle.meaning.specs.Masses.{gasCount, equivalent, limit}
-use Rattle.meaning.specs.Register.{registerLayout, yearOf, sourceCount, mostSources, lineCount, mostLines, nameBytes, mostNameBytes, sourcesAt, linesAt, namesAt, wholeLength, misplaced, lineStart, nameStart}
+use Rattle.meaning.specs.Register.{Source, registerLayout, yearOf, sourceCount, mostSources, lineCount, mostLines, nameBytes, mostNameBytes, sourcesAt, linesAt, namesAt, wholeLength, misplaced, lineStart, nameStart}
 use Rattle.meaning.specs.Report.{Entry}
 
 -- P of each of a list
@@ -60,3 +62,27 @@ pub record LaidRight (b : List ℕ) : Type 0 where
   pub placed : (i : ℕ) → i < sourceCount b → misplaced b i ≡ false
   pub lastLine : lineStart b (sourceCount b) ≡ lineCount b
   pub lastName : nameStart b (sourceCount b) ≡ nameBytes b
+
+-- a line, and a source, whose numbers fit the bytes that a register has for them
+pub record LineFits (l : RawLine) : Type 0 where
+  pub kind : l .kind < 2 ^ 8
+  pub unit : l .unit < 2 ^ 8
+  pub code : l .code < 2 ^ 16
+  pub a : l .a < 2 ^ 32
+  pub b : l .b < 2 ^ 32
+  pub q : l .q < 2 ^ 64
+
+pub record SourceFits (s : Source) : Type 0 where
+  pub number : s .number < 2 ^ 32
+  pub method : s .method < 2 ^ 8
+  pub parameter : s .parameter < 2 ^ 8
+  pub name : Bytes (s .name)
+  pub lines : Each LineFits (s .lines)
+
+-- a year and sources that a register has room for
+pub record Encodable (year : ℕ) (ss : List Source) : Type 0 where
+  pub inRange : (1990 ≤ year) × (year ≤ 2100)
+  pub sources : length ss ≤ mostSources
+  pub lines : length (joined (map (λ s. s .lines) ss)) ≤ mostLines
+  pub names : length (joined (map (λ s. s .name) ss)) ≤ mostNameBytes
+  pub each : Each SourceFits ss
