@@ -1,6 +1,6 @@
 -- The laws of sums, of counting up and of order by a key. Assumes nothing.
 use mathlib.Core.Bool.{Bool, true, false, cond}
-use mathlib.Core.List.{List, [], _∷_, _++_, map, Perm, Perm·refl, Perm·cons, Perm·swap, Perm·trans}
+use mathlib.Core.List.{List, [], _∷_, _++_, List·Permᴰ, List·Permᴰ·nil, List·Permᴰ·cons, List·Permᴰ·swap, List·Permᴰ·trans, Permᴰ·refl}
 use mathlib.Core.Path.{_≡_, refl, ap, _∙_}
 use Prim.Native.Nat.{ℕ, zero, suc, _+_}
 use native.Mathlib.Nat.{add-assoc, zero-add}
@@ -20,19 +20,19 @@ length-countUp i (suc k) = ap suc (length-countUp (i + 1) k)
 
 module _ {A : Type 0} (key : A → ℕ) where
   -- order loses nothing and makes nothing: the same elements, each as often
-  pub insertBy-perm : (x : A) (xs : List A) → Perm (insertBy key x xs) (x ∷ xs)
+  pub insertBy-perm : (x : A) (xs : List A) → List·Permᴰ (insertBy key x xs) (x ∷ xs)
   unfolding insertBy
-  insertBy-perm x [] = Perm·refl (x ∷ [])
+  insertBy-perm x [] = Permᴰ·refl (x ∷ [])
   insertBy-perm x (y ∷ ys) = by (leb (key x) (key y)) (insertBy-perm x ys)
     where
-      by : (b : Bool) → Perm (insertBy key x ys) (x ∷ ys) → Perm (cond b (x ∷ y ∷ ys) (y ∷ insertBy key x ys)) (x ∷ y ∷ ys)
-      by true h = Perm·refl (x ∷ y ∷ ys)
-      by false h = Perm·trans (Perm·cons y h) (Perm·swap x y ys)
+      by : (b : Bool) → List·Permᴰ (insertBy key x ys) (x ∷ ys) → List·Permᴰ (cond b (x ∷ y ∷ ys) (y ∷ insertBy key x ys)) (x ∷ y ∷ ys)
+      by true h = Permᴰ·refl (x ∷ y ∷ ys)
+      by false h = List·Permᴰ·trans (List·Permᴰ·cons refl h) (List·Permᴰ·swap refl refl)
 
-  pub sortedBy-perm : (xs : List A) → Perm (sortedBy key xs) xs
+  pub sortedBy-perm : (xs : List A) → List·Permᴰ (sortedBy key xs) xs
   unfolding sortedBy
-  sortedBy-perm [] = Perm·refl []
-  sortedBy-perm (x ∷ xs) = Perm·trans (insertBy-perm x (sortedBy key xs)) (Perm·cons x (sortedBy-perm xs))
+  sortedBy-perm [] = List·Permᴰ·nil
+  sortedBy-perm (x ∷ xs) = List·Permᴰ·trans (insertBy-perm x (sortedBy key xs)) (List·Permᴰ·cons refl (sortedBy-perm xs))
 
   length-insertBy : (x : A) (xs : List A) → length (insertBy key x xs) ≡ suc (length xs)
   unfolding insertBy

@@ -16,7 +16,7 @@ use Rattle.basis.specs.Lists.{countUp, any, joined}
 use Rattle.basis.specs.Answers.{refuseIf, refuseAtFirst, firstRefusal, answer, Outcome}
 use Rattle.basis.specs.First.{first}
 use Rattle.basis.proofs.First.{clash, first-misses, first-end}
-use Rattle.basis.proofs.Answers.{passed-at-all}
+use Rattle.basis.proofs.Answers.{passed-at-all, passed-then}
 use Rattle.basis.proofs.Lists.{length-countUp, length-sortedBy}
 use Rattle.meaning.specs.declared.Decoded.{Decoded}
 use Rattle.meaning.specs.declared.Decoded.the-variants.{Good, Bad}
@@ -30,12 +30,12 @@ use Rattle.demands.specs.Valid.{Each, Entered, Distinct, entryNumber, Re
 use Rattle.demands.specs.Exactly.{Exactly}
 use Rattle.demands.specs.Refusals.{registerRows, calculationRows}
 use Rattle.demands.proofs.Lists.{and-true, or-false, not-both, any-some, some-any, any-append, append-any, each-at, at-each}
-use Rattle.demands.proofs.Order.{sorted-each, sorted-ascending}
+use Rattle.demands.proofs.Order.{each-map, sorted-each, sorted-ascending}
 use Rattle.demands.proofs.Rows.{numberAt-fits, bytes-drop}
-use Rattle.demands.proofs.Exactly.{passed-if, if-passed, each-passes, decide-append, NumbersOf, passed-append, exactly-written, nonzero, room-decides}
+use Rattle.demands.proofs.Exactly.{passed-if, if-passed, each-passes, decide-append, DecideAll, NumbersOf, passed-append, passes-each, exactly-written, zero-passes, nonzero, room-decides}
 use Rattle.demands.proofs.Reports.{length-report}
 use Rattle.demands.proofs.RegisterTests.{or-either, noSource, sourceNumber, length-sources, source-at, register-decides}
-use Rattle.demands.proofs.Registers.{Passed, passed}
+use Rattle.demands.proofs.Registers.{Passed, passed, passing}
 use Rattle.demands.proofs.Calculation.{no-fault, line-decides, mass-decides}
 
 -- a source that nothing refuses, with a number of four bytes
@@ -194,27 +194,56 @@ module _ (b : List ℕ) (h : Bytes b) where
   made-length p c =
       length-report (yearOf b) (entriesFor (sourcesOf b)) (register-makes p c) ∙ ap reportLength (one-entry-each (sourcesOf b) .1 ∙ length-sources b)
 
+  abbrev pub tests : List Verdict
+  tests = registerTests b ++ (lineTest (sourcesOf b) ∷ massTest (sourcesOf b) ∷ [])
+
+  abbrev pub made : List ℕ
+  made = reportBytes (yearOf b) (entriesFor (sourcesOf b))
+
+  decides : (report : List ℕ) → DecideAll (tests ++ (roomTest made report ∷ [])) (calculationRows b (length report))
+  decides report =
+      rw (append-assoc (registerTests b) (lineTest (sourcesOf b) ∷ massTest (sourcesOf b) ∷ []) (roomTest made report ∷ []))
+      (decide-append (registerTests b) (lineTest (sourcesOf b) ∷ massTest (sourcesOf b) ∷ roomTest made report ∷ []) (registerRows b) _ (register-decides b)
+      (λ p. let q = passed b p in
+      (line-decides b (q .laid), λ l. (mass-decides b, λ m. (room-decides made report (reportLength (sourceCount b)) (made-length q (calculable q l m)), λ _. tt)))))
+
+  numbers : (report : List ℕ) → NumbersOf (calculationRows b (length report))
+  numbers report =
+      (λ n p r. nonzero (r .0), (λ n p r. nonzero (r .0), (λ n p r. nonzero (r .0), (λ n p r. nonzero (r .0), (λ n p r. nonzero (r .0), (λ n p r. nonzero (r .0),
+      (λ n p r. nonzero (r .0), (λ n p r. nonzero (r .0), (λ n p r. nonzero (r .0), (λ n p r. nonzero (r .0), (λ n p r. nonzero (r .0),
+      (λ n p r. nonzero (r .1 .0), (λ n p r. nonzero (r .0), (λ n p r. nonzero (r .1 .0), (λ n p r. nonzero (r .1 .0),
+      (λ n p r. ⊎-elim (λ f. nonzero (f .0)) (λ f. nonzero (f .0)) (r .1), (λ n p r. nonzero (r .0), tt)))))))))))))))))
+
+  -- tests that all pass: the register passes 1 to 4, and nothing refuses its sources
+  all-passed : (report : List ℕ) → firstRefusal (tests ++ (roomTest made report ∷ [])) ≡ Passes → Passed b × Each Calculable (sourcesOf b)
+  all-passed report e =
+      let f = append-assoc (registerTests b) (lineTest (sourcesOf b) ∷ massTest (sourcesOf b) ∷ []) (roomTest made report ∷ []) in
+      let r = passed-append (registerTests b) (lineTest (sourcesOf b) ∷ massTest (sourcesOf b) ∷ roomTest made report ∷ []) (rw f at e) in
+      let q = passed b (r .0) in
+      let t = each-passes (lineTest (sourcesOf b) ∷ massTest (sourcesOf b) ∷ roomTest made report ∷ []) (r .1) in
+      (q, calculable q (t .0) (t .1 .0))
+
   pub calculation-exactly : (report : List ℕ) → Exactly (calculationRows b (length report)) (reportLength (sourceCount b)) (calculated b report .answer)
   unfolding calculated
   calculation-exactly report =
-      let ss = sourcesOf b in
-      let made = reportBytes (yearOf b) (entriesFor ss) in
-      let tail = lineTest ss ∷ massTest ss ∷ roomTest made report ∷ [] in
-      let e = append-assoc (registerTests b) (lineTest ss ∷ massTest ss ∷ []) (roomTest made report ∷ []) in
-      exactly-written (registerTests b ++ (lineTest ss ∷ massTest ss ∷ [])) (calculationRows b (length report)) made report (reportLength (sourceCount b))
-      (rw e
-      (decide-append (registerTests b) tail (registerRows b) _ (register-decides b)
-      (λ p. let q = passed b p in
-      (line-decides b (q .laid), λ l. (mass-decides b, λ m. (room-decides made report (reportLength (sourceCount b)) (made-length q (calculable q l m)), λ _. tt))))))
-      numbers
-      (λ p. let r = passed-append (registerTests b) tail (rw e at p) in
-      let q = passed b (r .0) in
-      let t = each-passes tail (r .1) in
-      made-length q (calculable q (t .0) (t .1 .0)))
-    where
-      numbers : NumbersOf (calculationRows b (length report))
-      numbers =
-          (λ n p r. nonzero (r .0), (λ n p r. nonzero (r .0), (λ n p r. nonzero (r .0), (λ n p r. nonzero (r .0), (λ n p r. nonzero (r .0), (λ n p r. nonzero (r .0),
-          (λ n p r. nonzero (r .0), (λ n p r. nonzero (r .0), (λ n p r. nonzero (r .0), (λ n p r. nonzero (r .0), (λ n p r. nonzero (r .0),
-          (λ n p r. nonzero (r .1 .0), (λ n p r. nonzero (r .0), (λ n p r. nonzero (r .1 .0), (λ n p r. nonzero (r .1 .0),
-          (λ n p r. ⊎-elim (λ f. nonzero (f .0)) (λ f. nonzero (f .0)) (r .1), (λ n p r. nonzero (r .0), tt)))))))))))))))))
+      exactly-written tests (calculationRows b (length report)) made report (reportLength (sourceCount b)) (decides report) (numbers report)
+      (λ e. let r = all-passed report e in made-length (r .0) (r .1))
+
+  pub accepted : (report : List ℕ) → calculated b report .answer .number ≡ 0 → Passed b × Each Calculable (sourcesOf b) × (firstRefusal (tests ++ (roomTest made report ∷ [])) ≡ Passes)
+  unfolding calculated
+  accepted report e =
+      let p = zero-passes tests (calculationRows b (length report)) made report (decides report) (numbers report) e in
+      let r = all-passed report p in
+      (r .0, r .1, p)
+
+  -- and the other way round, with room
+  pub accepting : (report : List ℕ) → Passed b → Each Calculable (sourcesOf b) → reportLength (sourceCount b) ≤ length report → firstRefusal (tests ++ (roomTest made report ∷ [])) ≡ Passes
+  accepting report p c o =
+      let f = append-assoc (registerTests b) (lineTest (sourcesOf b) ∷ massTest (sourcesOf b) ∷ []) (roomTest made report ∷ []) in
+      let l = made-length p c in
+      rw f
+      (passed-then (registerTests b) (lineTest (sourcesOf b) ∷ massTest (sourcesOf b) ∷ roomTest made report ∷ []) (passing b p)
+      ∙ passes-each (lineTest (sourcesOf b) ∷ massTest (sourcesOf b) ∷ roomTest made report ∷ [])
+      (good-lines (sourcesOf b) (each-map (λ s h. h .good) (sourcesOf b) c),
+      (kept-sums (sourcesOf b) (each-map (λ s h. h .kept) (sourcesOf b) c),
+      (if-passed (ltb (length report) (length made)) 8 (length made) (le-ltb (length report) (length made) (omega arith)), tt))))

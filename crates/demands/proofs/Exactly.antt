@@ -163,6 +163,18 @@ exactly-written tests rows made buffer len d z m =
     rw (settled-answer (firstRefusal ts) made buffer)
     (exactly (firstRefusal ts) rows (length made) len (first-decides ts rows d) z m)
 
+-- an accepted call's tests all pass
+pub zero-passes : (tests : List Verdict) (rows : List Row) (made buffer : List ℕ) → DecideAll (tests ++ (roomTest made buffer ∷ [])) rows → NumbersOf rows
+    → written tests made buffer .answer .number ≡ 0 → firstRefusal (tests ++ (roomTest made buffer ∷ [])) ≡ Passes
+unfolding written
+zero-passes tests rows made buffer d z e =
+    let ts = tests ++ (roomTest made buffer ∷ []) in
+    by (firstRefusal ts) refl (sym (ap (λ (a : Answer). a .number) (settled-answer (firstRefusal ts) made buffer)) ∙ e)
+  where
+    by : (v : Verdict) → firstRefusal (tests ++ (roomTest made buffer ∷ [])) ≡ v → answer v (length made) .number ≡ 0 → v ≡ Passes
+    by Passes h q = refl
+    by (Refuses n p) h q = absurd (first-number rows z n p (first-decides (tests ++ (roomTest made buffer ∷ [])) rows d n p .0 h) q)
+
 pub nonzero : {k n : ℕ} → n ≡ suc k → n ≢ 0
 nonzero c e = omega arith
 

@@ -10,3 +10,6 @@ pub mod RegisterTests
 pub mod Registers
 pub mod Calculation
 pub mod Calculated
+pub mod Trees
+pub mod Combined
+pub mod Dealing

@@ -65,12 +65,12 @@ module _ (b : List ℕ) (h : Bytes b) (w : wellFormed b ≡ true) where
   unfolding entryIn
   number-at i l = ap (λ (e : Entry). e .number) (entry-at b h (formed b w) i l)
 
-  has : (x : ℕ) → HasNumber b x → any (numbered x) (entriesOf b) ≡ true
+  pub has : (x : ℕ) → HasNumber b x → any (numbered x) (entriesOf b) ≡ true
   has x r =
       let l : r .0 < length (entriesOf b) = rw counted (r .1) in
       some-any (numbered x) noEntry (entriesOf b) (r .0) l (eq-eqb _ x (number-at (r .0) (r .1) ∙ r .2))
 
-  has-it : (x : ℕ) → any (numbered x) (entriesOf b) ≡ true → HasNumber b x
+  pub has-it : (x : ℕ) → any (numbered x) (entriesOf b) ≡ true → HasNumber b x
   has-it x e =
       let r = any-some (numbered x) noEntry (entriesOf b) e in
       let l : r .0 < entryCount b = rw counted at (r .1) in

@@ -10,7 +10,7 @@ use Rattle.meaning.specs.Calls.{entriesFor, bothEntries}
 
 pub inOrder-perm : (es : List Entry) → Perm (inOrder es) es
 unfolding inOrder
-inOrder-perm = sortedBy-perm (λ e. e .number)
+inOrder-perm es = ∣ sortedBy-perm (λ e. e .number) es ∣₁
 
 pub length-inOrder : (es : List Entry) → length (inOrder es) ≡ length es
 unfolding inOrder

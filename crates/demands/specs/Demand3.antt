@@ -1,0 +1,101 @@
+-- "3. Take any accepted register. Deal its sources out among one or more registers of its year, each source with its name and lines into one
+-- of them, in any order. With room for every report, each of these is accepted, and combining all their reports, in any order and any
+-- grouping, gives the whole register's report byte for byte. The year's empty report changes nothing when combined. Removing a source and
+-- combining its own report again gives the report we had." Assumes nothing.
+use mathlib.Core.Bool.{true}
+use mathlib.Core.List.{List, [], _∷_, map, Perm}
+use mathlib.Core.Path.{_≡_}
+use Prim.Native.Nat.{ℕ, _+_, _≤_, _<_}
+use lib.ListN.{length, getD}
+use Rattle.basis.specs.Bytes.{Bytes}
+use Rattle.basis.specs.Lists.{joined}
+use Rattle.basis.specs.Answers.{Outcome}
+use Rattle.meaning.specs.Register.{Source, yearOf, sourceCount, sourcesOf, encode}
+use Rattle.meaning.specs.Report.{Entry, reportBytes, reportLength, reportYear, entryCount, entriesOf, wellFormed}
+use Rattle.meaning.specs.Calls.{calculated, combined, removed}
+use Rattle.demands.specs.Valid.{Each, LaidRight}
+use Rattle.demands.specs.Trees.{Tree, leaves, wrote, Accepted, result, EachAccepted, Room}
+
+-- a register, and the buffer that is lent to its calculation
+pub record Lent : Type 0 where
+  pub register : List ℕ
+  pub buffer : List ℕ
+
+-- a register of a year that is laid right, with room for its report
+pub record Dealt (year : ℕ) (p : Lent) : Type 0 where
+  pub bytes : Bytes (p .register)
+  pub laid : LaidRight (p .register)
+  pub sameYear : yearOf (p .register) ≡ year
+  pub room : reportLength (sourceCount (p .register)) ≤ length (p .buffer)
+
+abbrev pub calculation : Lent → Outcome
+calculation p = calculated (p .register) (p .buffer)
+
+-- Any accepted register; any registers whose sources together are its sources, in any order: each is accepted. And any tree that has each of
+-- their reports once, in any order, with room at every node: each combination is accepted, and the root writes the whole register's report.
+abbrev pub Dealing : Type 0
+Dealing =
+    (whole : Lent) (parts : List Lent)
+    → Bytes (whole .register)
+    → Accepted (calculation whole)
+    → Each (Dealt (yearOf (whole .register))) parts
+    → Perm (joined (map (λ p. sourcesOf (p .register)) parts)) (sourcesOf (whole .register))
+    → Each (λ p. Accepted (calculation p)) parts
+    × ((t : Tree)
+    → Perm (leaves t) (map (λ p. wrote (calculation p)) parts)
+    → Room entryCount reportLength t
+    → EachAccepted combined t × (result combined t ≡ wrote (calculation whole)))
+
+-- For every way to deal the sources of an accepted register out there are such registers.
+abbrev pub EveryDealing : Type 0
+EveryDealing =
+    (whole : Lent) (deals : List (List Source))
+    → Bytes (whole .register)
+    → Accepted (calculation whole)
+    → Perm (joined deals) (sourcesOf (whole .register))
+    → Each (λ ss. let r = encode (yearOf (whole .register)) ss in Bytes r × LaidRight r × (yearOf r ≡ yearOf (whole .register)) × (sourcesOf r ≡ ss)) deals
+
+-- a well-formed report of bytes
+pub record GoodReport (b : List ℕ) : Type 0 where
+  pub bytes : Bytes b
+  pub formed : wellFormed b ≡ true
+
+-- a combination is accepted and writes a report
+abbrev pub Gives : List ℕ → List ℕ → List ℕ → List ℕ → Type 0
+Gives one other buffer whole = Accepted (combined one other buffer) × (wrote (combined one other buffer) ≡ whole)
+
+-- The empty report of a report's year changes nothing, on either side.
+abbrev pub Unit′ : Type 0
+Unit′ =
+    (b buffer : List ℕ) → GoodReport b → length b ≤ length buffer
+    → Gives b (reportBytes (reportYear b) []) buffer b × Gives (reportBytes (reportYear b) []) b buffer b
+
+-- Removing an entry of a well-formed report and combining its one-entry report again, on either side, gives the report.
+abbrev pub Again : Type 0
+Again =
+    (b result buffer : List ℕ) (i : ℕ) (e : Entry)
+    → GoodReport b
+    → i < entryCount b
+    → getD (entriesOf b) i e ≡ e
+    → length b ≤ length result
+    → length b ≤ length buffer
+    → Accepted (removed b (e .number) result)
+    × Gives (wrote (removed b (e .number) result)) (reportBytes (reportYear b) (e ∷ [])) buffer b
+    × Gives (reportBytes (reportYear b) (e ∷ [])) (wrote (removed b (e .number) result)) buffer b
+
+-- Removing a source from a register's report and combining the calculated report of that source alone gives the register's report.
+abbrev pub SourceAgain : Type 0
+SourceAgain =
+    (whole alone : Lent) (s : Source) (i : ℕ) (result buffer : List ℕ)
+    → Bytes (whole .register)
+    → Accepted (calculation whole)
+    → i < sourceCount (whole .register)
+    → getD (sourcesOf (whole .register)) i s ≡ s
+    → Dealt (yearOf (whole .register)) alone
+    → sourcesOf (alone .register) ≡ s ∷ []
+    → reportLength (sourceCount (whole .register)) ≤ length result
+    → reportLength (sourceCount (whole .register)) ≤ length buffer
+    → Accepted (removed (wrote (calculation whole)) (s .number) result)
+    × Accepted (calculation alone)
+    × Gives (wrote (removed (wrote (calculation whole)) (s .number) result)) (wrote (calculation alone)) buffer (wrote (calculation whole))
+    × Gives (wrote (calculation alone)) (wrote (removed (wrote (calculation whole)) (s .number) result)) buffer (wrote (calculation whole))
