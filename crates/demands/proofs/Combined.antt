@@ -88,7 +88,7 @@ module _ (y : ℕ) (xs zs : List Entry) (v : Reportable y xs) (w : Reportable y 
       (r .0, r .1 ∙ is)
 
 -- two lists whose keys are all different are apart
-apart : {A : Type 0} (key : A → ℕ) (xs ys : List A) → Distinct key (xs ++ ys) → Each (λ x. Each (λ y. key x ≢ key y) ys) xs
+pub apart : {A : Type 0} (key : A → ℕ) (xs ys : List A) → Distinct key (xs ++ ys) → Each (λ x. Each (λ y. key x ≢ key y) ys) xs
 apart key [] ys d = tt
 apart key (x ∷ xs) ys d = (each-split (λ y. key x ≢ key y) xs ys (d .0) .1, apart key xs ys (d .1))
 

@@ -68,7 +68,7 @@ made-calculated p d m =
     (accepting b (d .bytes) (p .buffer) (laid-passed b (d .laid) (m .sound) (m .once)) (m .sound) (d .room))
 
 module _ (y : ℕ) where
-  part-calculated : (p : Lent) → Dealt y p → Sources y (sourcesOf (p .register)) → Accepted (calculation p) × (wrote (calculation p) ≡ reportBytes y (entriesFor (sourcesOf (p .register))))
+  pub part-calculated : (p : Lent) → Dealt y p → Sources y (sourcesOf (p .register)) → Accepted (calculation p) × (wrote (calculation p) ≡ reportBytes y (entriesFor (sourcesOf (p .register))))
   part-calculated p d m =
       let e = d .sameYear in
       let r =

@@ -13,3 +13,5 @@ pub mod Calculated
 pub mod Trees
 pub mod Combined
 pub mod Dealing
+pub mod Removal
+pub mod SourceAgain

@@ -5,7 +5,7 @@
 use mathlib.Core.Bool.{true}
 use mathlib.Core.List.{List, [], _∷_, map, Perm}
 use mathlib.Core.Path.{_≡_}
-use Prim.Native.Nat.{ℕ, _+_, _≤_, _<_}
+use Prim.Native.Nat.{ℕ, _-_, _≤_, _<_}
 use lib.ListN.{length, getD}
 use Rattle.basis.specs.Bytes.{Bytes}
 use Rattle.basis.specs.Lists.{joined}
@@ -65,8 +65,8 @@ abbrev pub Gives : List ℕ → List ℕ → List ℕ → List ℕ → Type 0
 Gives one other buffer whole = Accepted (combined one other buffer) × (wrote (combined one other buffer) ≡ whole)
 
 -- The empty report of a report's year changes nothing, on either side.
-abbrev pub Unit′ : Type 0
-Unit′ =
+abbrev pub Neutral : Type 0
+Neutral =
     (b buffer : List ℕ) → GoodReport b → length b ≤ length buffer
     → Gives b (reportBytes (reportYear b) []) buffer b × Gives (reportBytes (reportYear b) []) b buffer b
 
@@ -77,7 +77,7 @@ Again =
     → GoodReport b
     → i < entryCount b
     → getD (entriesOf b) i e ≡ e
-    → length b ≤ length result
+    → reportLength (entryCount b - 1) ≤ length result
     → length b ≤ length buffer
     → Accepted (removed b (e .number) result)
     × Gives (wrote (removed b (e .number) result)) (reportBytes (reportYear b) (e ∷ [])) buffer b
@@ -93,7 +93,7 @@ SourceAgain =
     → getD (sourcesOf (whole .register)) i s ≡ s
     → Dealt (yearOf (whole .register)) alone
     → sourcesOf (alone .register) ≡ s ∷ []
-    → reportLength (sourceCount (whole .register)) ≤ length result
+    → reportLength (sourceCount (whole .register) - 1) ≤ length result
     → reportLength (sourceCount (whole .register)) ≤ length buffer
     → Accepted (removed (wrote (calculation whole)) (s .number) result)
     × Accepted (calculation alone)
