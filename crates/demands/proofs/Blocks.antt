@@ -54,8 +54,10 @@ module _ {A : Type 0} (f : ℕ → List A) (s c : ℕ → ℕ) (g : ℕ → ℕ 
     where
       h : Block a
       h = b a (omega arith) (omega arith)
+
       rest : List A
       rest = joined (map f (countUp (a + 1) k))
+
       by : Dec (a < i) → (a < i → getD rest (j - s (a + 1)) d ≡ g i j) → getD (f a ++ rest) (j - s a) d ≡ g i j
       by (yes o) r =
           let n : i - (a + 1) + (a + 1) ≡ i = omega arith in

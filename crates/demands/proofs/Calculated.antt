@@ -27,12 +27,13 @@ use Rattle.meaning.specs.Report.{Entry, entryOf, inOrder, reportBytes, reportLe
 use Rattle.meaning.specs.Calls.{roomTest, badLine, lineTest, massFault, faultAt, massTest, entriesFor, calculated}
 use Rattle.meaning.proofs.Laws.{one-entry-each}
 use Rattle.demands.specs.Valid.{Each, Entered, Distinct, entryNumber, Reportable, LaidRight}
+use Rattle.demands.specs.Demand1.{Among, Answers}
 use Rattle.demands.specs.Exactly.{Exactly}
 use Rattle.demands.specs.Refusals.{registerRows, calculationRows}
 use Rattle.demands.proofs.Lists.{and-true, or-false, not-both, any-some, some-any, any-append, append-any, each-at, at-each}
 use Rattle.demands.proofs.Order.{each-map, sorted-each, sorted-ascending}
 use Rattle.demands.proofs.Rows.{numberAt-fits, bytes-drop}
-use Rattle.demands.proofs.Exactly.{passed-if, if-passed, each-passes, decide-append, DecideAll, NumbersOf, passed-append, passes-each, exactly-written, zero-passes, nonzero, room-decides}
+use Rattle.demands.proofs.Exactly.{passed-if, if-passed, each-passes, decide-append, DecideAll, Numbered, passed-append, passes-each, exactly-written, zero-passes, answers, room-decides}
 use Rattle.demands.proofs.Reports.{length-report}
 use Rattle.demands.proofs.RegisterTests.{or-either, noSource, sourceNumber, length-sources, source-at, register-decides}
 use Rattle.demands.proofs.Registers.{Passed, passed, passing}
@@ -53,8 +54,10 @@ method-listed m p e =
   where
     is : (k : ℕ) → 1 ≤ k → k ≤ 6 → eqb m k ≡ true → (1 ≤ m) × (m ≤ 6)
     is k a b h = omega (arith, eqb-true m k h)
+
     two : eqb m 4 || eqb m 6 ≡ true → (1 ≤ m) × (m ≤ 6)
     two h = ⊎-elim (is 4 (omega arith) (omega arith)) (is 6 (omega arith) (omega arith)) (or-either (eqb m 4) (eqb m 6) h)
+
     four : eqb m 1 || eqb m 2 || eqb m 3 || eqb m 5 ≡ true → (1 ≤ m) × (m ≤ 6)
     four h =
         ⊎-elim
@@ -163,8 +166,8 @@ kept-sums ss h =
     let fs = map massFault ss in
     let q : length fs ≡ length ss = length-map ss massFault in
     let e : first (faultAt fs) (length fs) ≡ length fs =
-          first-end (faultAt fs) (length fs)
-          (λ i l. ap not (eq-eqb (getD fs i 0) 0 (sym (fault-zero ss i) ∙ each-at (λ s. massFault s ≡ 0) ss noSource h i (omega arith)))) in
+    first-end (faultAt fs) (length fs)
+    (λ i l. ap not (eq-eqb (getD fs i 0) 0 (sym (fault-zero ss i) ∙ each-at (λ s. massFault s ≡ 0) ss noSource h i (omega arith)))) in
     if-passed (ltb (first (faultAt fs) (length fs)) (length fs)) _ _ (rw e (le-ltb (length fs) (length fs) (omega arith)))
 
 -- the tests of calculation behind those of the register
@@ -172,6 +175,18 @@ each-calculable : (ss : List Source) → Each (λ s. s .number < 2 ^ 32) ss → 
     → Each (λ s. any isBad (decodedLines s) ≡ false) ss → Each (λ s. massFault s ≡ 0) ss → Each Calculable ss
 each-calculable [] n u g k = tt
 each-calculable (s ∷ ss) n u g k = (record { number = n .0; sound = u .0; good = g .0; kept = k .0 }, each-calculable ss (n .1) (u .1) (g .1) (k .1))
+
+abbrev pub calculationNumbers : List ℕ
+calculationNumbers = 1 ∷ 2 ∷ 3 ∷ 4 ∷ 5 ∷ 6 ∷ 7 ∷ 8 ∷ []
+
+one : {n : ℕ} → n ≡ 1 → Among calculationNumbers n
+one e = inl e
+
+two : {n : ℕ} → n ≡ 2 → Among calculationNumbers n
+two e = inr (inl e)
+
+three : {n : ℕ} → n ≡ 3 → Among calculationNumbers n
+three e = inr (inr (inl e))
 
 module _ (b : List ℕ) (h : Bytes b) where
   number-fits : (i : ℕ) → i < sourceCount b → sourceAt b i .number < 2 ^ 32
@@ -207,12 +222,60 @@ module _ (b : List ℕ) (h : Bytes b) where
       (λ p. let q = passed b p in
       (line-decides b (q .laid), λ l. (mass-decides b, λ m. (room-decides made report (reportLength (sourceCount b)) (made-length q (calculable q l m)), λ _. tt)))))
 
-  numbers : (report : List ℕ) → NumbersOf (calculationRows b (length report))
+  numbers : (report : List ℕ) → Numbered calculationNumbers (calculationRows b (length report))
   numbers report =
-      (λ n p r. nonzero (r .0), (λ n p r. nonzero (r .0), (λ n p r. nonzero (r .0), (λ n p r. nonzero (r .0), (λ n p r. nonzero (r .0), (λ n p r. nonzero (r .0),
-      (λ n p r. nonzero (r .0), (λ n p r. nonzero (r .0), (λ n p r. nonzero (r .0), (λ n p r. nonzero (r .0), (λ n p r. nonzero (r .0),
-      (λ n p r. nonzero (r .1 .0), (λ n p r. nonzero (r .0), (λ n p r. nonzero (r .1 .0), (λ n p r. nonzero (r .1 .0),
-      (λ n p r. ⊎-elim (λ f. nonzero (f .0)) (λ f. nonzero (f .0)) (r .1), (λ n p r. nonzero (r .0), tt)))))))))))))))))
+      record {
+        positive = omega arith;
+        among = (
+          λ n p r. one (r .0),
+          (
+            λ n p r. two (r .0),
+            (
+              λ n p r. two (r .0),
+              (
+                λ n p r. two (r .0),
+                (
+                  λ n p r. two (r .0),
+                  (
+                    λ n p r. two (r .0),
+                    (
+                      λ n p r. two (r .0),
+                      (
+                        λ n p r. two (r .0),
+                        (
+                          λ n p r. two (r .0),
+                          (
+                            λ n p r. two (r .0),
+                            (
+                              λ n p r. two (r .0),
+                              (
+                                λ n p r. three (r .1 .0),
+                                (
+                                  λ n p r. three (r .0),
+                                  (
+                                    λ n p r. inr (inr (inr (inl (r .1 .0)))),
+                                    (
+                                      λ n p r. inr (inr (inr (inr (inl (r .1 .0))))),
+                                      (
+                                        λ n p r. inr (inr (inr (inr (inr (⊎-elim (λ f. inl (f .0)) (λ f. inr (inl (f .0))) (r .1)))))),
+                                        (λ n p r. inr (inr (inr (inr (inr (inr (inr (inl (r .0)))))))), tt),
+                                      ),
+                                    ),
+                                  ),
+                                ),
+                              ),
+                            ),
+                          ),
+                        ),
+                      ),
+                    ),
+                  ),
+                ),
+              ),
+            ),
+          ),
+        );
+      }
 
   -- tests that all pass: the register passes 1 to 4, and nothing refuses its sources
   all-passed : (report : List ℕ) → firstRefusal (tests ++ (roomTest made report ∷ [])) ≡ Passes → Passed b × Each Calculable (sourcesOf b)
@@ -226,13 +289,17 @@ module _ (b : List ℕ) (h : Bytes b) where
   pub calculation-exactly : (report : List ℕ) → Exactly (calculationRows b (length report)) (reportLength (sourceCount b)) (calculated b report .answer)
   unfolding calculated
   calculation-exactly report =
-      exactly-written tests (calculationRows b (length report)) made report (reportLength (sourceCount b)) (decides report) (numbers report)
+      exactly-written tests calculationNumbers (calculationRows b (length report)) made report (reportLength (sourceCount b)) (decides report) (numbers report)
       (λ e. let r = all-passed report e in made-length (r .0) (r .1))
+
+  pub calculation-answers : (report : List ℕ) → Answers calculationNumbers report (calculated b report)
+  unfolding calculated
+  calculation-answers report = answers tests calculationNumbers (calculationRows b (length report)) made report (decides report) (numbers report)
 
   pub accepted : (report : List ℕ) → calculated b report .answer .number ≡ 0 → Passed b × Each Calculable (sourcesOf b) × (firstRefusal (tests ++ (roomTest made report ∷ [])) ≡ Passes)
   unfolding calculated
   accepted report e =
-      let p = zero-passes tests (calculationRows b (length report)) made report (decides report) (numbers report) e in
+      let p = zero-passes tests calculationNumbers (calculationRows b (length report)) made report (decides report) (numbers report) e in
       let r = all-passed report p in
       (r .0, r .1, p)
 
@@ -243,7 +310,10 @@ module _ (b : List ℕ) (h : Bytes b) where
       let l = made-length p c in
       rw f
       (passed-then (registerTests b) (lineTest (sourcesOf b) ∷ massTest (sourcesOf b) ∷ roomTest made report ∷ []) (passing b p)
-      ∙ passes-each (lineTest (sourcesOf b) ∷ massTest (sourcesOf b) ∷ roomTest made report ∷ [])
-      (good-lines (sourcesOf b) (each-map (λ s h. h .good) (sourcesOf b) c),
-      (kept-sums (sourcesOf b) (each-map (λ s h. h .kept) (sourcesOf b) c),
-      (if-passed (ltb (length report) (length made)) 8 (length made) (le-ltb (length report) (length made) (omega arith)), tt))))
+      ∙ passes-each (lineTest (sourcesOf b) ∷ massTest (sourcesOf b) ∷ roomTest made report ∷ []) (
+        good-lines (sourcesOf b) (each-map (λ s h. h .good) (sourcesOf b) c),
+        (
+          kept-sums (sourcesOf b) (each-map (λ s h. h .kept) (sourcesOf b) c),
+          (if-passed (ltb (length report) (length made)) 8 (length made) (le-ltb (length report) (length made) (omega arith)), tt),
+        ),
+      ))

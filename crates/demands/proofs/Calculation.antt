@@ -69,8 +69,8 @@ module _ (b : List ℕ) (l : LaidRight b) where
       let r = sourceEntry b i in
       record {
         is =
-          map-map (decoded (methodIn r) (parameterIn r)) (lineAt b) (countUp (firstLineIn r) (lineCountIn r))
-          ∙ ap (λ (x : ℕ). map (readAs i) (countUp x (lineCountIn r))) (standing i (omega arith) .line);
+            map-map (decoded (methodIn r) (parameterIn r)) (lineAt b) (countUp (firstLineIn r) (lineCountIn r))
+            ∙ ap (λ (x : ℕ). map (readAs i) (countUp x (lineCountIn r))) (standing i (omega arith) .line);
         next = next-line i (omega arith);
       }
 

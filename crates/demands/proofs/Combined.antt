@@ -70,21 +70,30 @@ module _ (y : ℕ) (xs zs : List Entry) (v : Reportable y xs) (w : Reportable y 
       let other = reportBytes y zs in
       let made = reportBytes (reportYear one) (bothEntries one other) in
       let is : made ≡ reportBytes y (inOrder (xs ++ zs)) =
-            ap₂ reportBytes (year-back y xs v) (ap inOrder (ap₂ _++_ (entries-back y xs v) (entries-back y zs w))) in
+      ap₂ reportBytes (year-back y xs v) (ap inOrder (ap₂ _++_ (entries-back y xs v) (entries-back y zs w))) in
       let long : length made ≡ reportLength (length xs + length zs) =
-            ap length is ∙ length-report y (inOrder (xs ++ zs)) (both-make xs zs v w a n) ∙ ap reportLength (length-inOrder (xs ++ zs) ∙ length-append xs zs) in
+      ap length is ∙ length-report y (inOrder (xs ++ zs)) (both-make xs zs v w a n) ∙ ap reportLength (length-inOrder (xs ++ zs) ∙ length-append xs zs) in
       let few : entryCount one + entryCount other ≤ mostSources = rw (count-back y xs v, count-back y zs w) n in
       let r =
-            accepted-written (formTest one 1 ∷ formTest other 2 ∷ yearTest one other ∷ sharedTest one other ∷ countTest one other ∷ []) made buffer
-            (passes-each (formTest one 1 ∷ formTest other 2 ∷ yearTest one other ∷ sharedTest one other ∷ countTest one other ∷ roomTest made buffer ∷ [])
-            (if-passed (not (wellFormed one)) 9 1 (ap not (report-right y xs v)),
-            (if-passed (not (wellFormed other)) 9 2 (ap not (report-right y zs w)),
-            (if-passed (not (eqb (reportYear one) (reportYear other))) 10 0 (ap not (eq-eqb (reportYear one) (reportYear other) (year-back y xs v ∙ sym (year-back y zs w)))),
-            (nowhere-passes (sharedTest one other) _
-            (shared-decides one other (report-bytes y xs v) (report-bytes y zs w) (report-right y xs v) (report-right y zs w))
-            (λ m q t. apart-nowhere a q (t .1)),
-            (if-passed (ltb mostSources (entryCount one + entryCount other)) 12 (entryCount one + entryCount other) (le-ltb mostSources (entryCount one + entryCount other) few),
-            (enough-room made buffer (omega arith), tt))))))) in
+      accepted-written (formTest one 1 ∷ formTest other 2 ∷ yearTest one other ∷ sharedTest one other ∷ countTest one other ∷ []) made buffer
+      (passes-each (formTest one 1 ∷ formTest other 2 ∷ yearTest one other ∷ sharedTest one other ∷ countTest one other ∷ roomTest made buffer ∷ []) (
+        if-passed (not (wellFormed one)) 9 1 (ap not (report-right y xs v)),
+        (
+          if-passed (not (wellFormed other)) 9 2 (ap not (report-right y zs w)),
+          (
+            if-passed (not (eqb (reportYear one) (reportYear other))) 10 0 (ap not (eq-eqb (reportYear one) (reportYear other) (year-back y xs v ∙ sym (year-back y zs w)))),
+            (
+              nowhere-passes (sharedTest one other) _
+                  (shared-decides one other (report-bytes y xs v) (report-bytes y zs w) (report-right y xs v) (report-right y zs w))
+                  (λ m q t. apart-nowhere a q (t .1)),
+              (
+                if-passed (ltb mostSources (entryCount one + entryCount other)) 12 (entryCount one + entryCount other) (le-ltb mostSources (entryCount one + entryCount other) few),
+                (enough-room made buffer (omega arith), tt),
+              ),
+            ),
+          ),
+        ),
+      )) in
       (r .0, r .1 ∙ is)
 
 -- two lists whose keys are all different are apart
@@ -132,7 +141,7 @@ reporting =
           let n : length (entriesFor ss) + length (entriesFor ts) ≡ length ss + length ts = ap₂ _+_ (length-entries ss) (length-entries ts) in
           let l = rw (length-append ss ts) at (m .few) in
           let r =
-                combined-writes y (entriesFor ss) (entriesFor ts) (made-of y ss (h .0)) (made-of y ts (h .1))
-                (apart entryNumber (entriesFor ss) (entriesFor ts) (both-distinct (map entryOf ss) (map entryOf ts) d)) (omega arith) buffer (omega arith) in
+          combined-writes y (entriesFor ss) (entriesFor ts) (made-of y ss (h .0)) (made-of y ts (h .1))
+          (apart entryNumber (entriesFor ss) (entriesFor ts) (both-distinct (map entryOf ss) (map entryOf ts) d)) (omega arith) buffer (omega arith) in
           (r .0, r .1 ∙ ap (reportBytes y) (sorted-both (map entryOf ss) (map entryOf ts) d ∙ ap inOrder (sym f)));
     }

@@ -54,9 +54,10 @@ pub calculated-made : (p : Lent) → Bytes (p .register) → Accepted (calculati
 unfolding calculated
 calculated-made p h e =
     let b = p .register in
-    let r = accepted b h (p .buffer) e in
-    (record { year = r .0 .laid .year; sound = r .1; once = r .0 .once; few = rw (length-sources b) (r .0 .laid .sources) },
-    accepted-written (tests b h) (made b h) (p .buffer) (r .2) .1)
+    let r = accepted b h (p .buffer) e in (
+      record { year = r .0 .laid .year; sound = r .1; once = r .0 .once; few = rw (length-sources b) (r .0 .laid .sources) },
+      accepted-written (tests b h) (made b h) (p .buffer) (r .2) .1,
+    )
 
 -- sources that make a report are calculated, with room
 pub made-calculated : (p : Lent) → Dealt (yearOf (p .register)) p → Sources (yearOf (p .register)) (sourcesOf (p .register))
@@ -72,8 +73,8 @@ module _ (y : ℕ) where
   part-calculated p d m =
       let e = d .sameYear in
       let r =
-            made-calculated p (record { bytes = d .bytes; laid = d .laid; sameYear = refl; room = d .room })
-            (subst (λ (z : ℕ). Sources z (sourcesOf (p .register))) (sym e) m) in
+      made-calculated p (record { bytes = d .bytes; laid = d .laid; sameYear = refl; room = d .room })
+      (subst (λ (z : ℕ). Sources z (sourcesOf (p .register))) (sym e) m) in
       (r .0, r .1 ∙ ap (λ (z : ℕ). reportBytes z (entriesFor (sourcesOf (p .register)))) e)
 
   abbrev sources : Lent → List Source
@@ -96,13 +97,14 @@ dealing whole parts h a d perm =
     let y = yearOf b in
     let r = calculated-made whole h a in
     let all : List·Permᴰ (joined (map (sources y) parts)) (sourcesOf b) → Sources y (joined (map (sources y) parts)) =
-          λ q. makes-perm sourceNumber entryNumber entryOf Calculable InYears reportBytes entryCount reportLength mostSources combined y (Permᴰ·symm q) (r .0) in
-    (∥∥₁-elim perm (each-prop (λ p. accepted-prop (calculation p)) parts) (λ q. parts-calculated y parts d (all q) .0),
-    λ t l o. ∥∥₁-elim perm (×-prop (tree-prop t) (bytes-prop (result combined t) (wrote (calculation whole))))
-    (λ q. ∥∥₁-elim l (×-prop (tree-prop t) (bytes-prop (result combined t) (wrote (calculation whole))))
-    (λ k.
-        let f = parts-calculated y parts d (all q) .1 in
-        let g =
-              dealt sourceNumber entryNumber entryOf Calculable InYears reportBytes entryCount reportLength mostSources combined reporting y (sourcesOf b) (map (sources y) parts) q (r .0) t
-              (subst (List·Permᴰ (leaves t)) f k) o in
-        (g .0, g .1 ∙ sym (r .1)))))
+    λ q. makes-perm sourceNumber entryNumber entryOf Calculable InYears reportBytes entryCount reportLength mostSources combined y (Permᴰ·symm q) (r .0) in (
+      ∥∥₁-elim perm (each-prop (λ p. accepted-prop (calculation p)) parts) (λ q. parts-calculated y parts d (all q) .0),
+      λ t l o. ∥∥₁-elim perm (×-prop (tree-prop t) (bytes-prop (result combined t) (wrote (calculation whole))))
+          (λ q. ∥∥₁-elim l (×-prop (tree-prop t) (bytes-prop (result combined t) (wrote (calculation whole))))
+          (λ k.
+          let f = parts-calculated y parts d (all q) .1 in
+          let g =
+          dealt sourceNumber entryNumber entryOf Calculable InYears reportBytes entryCount reportLength mostSources combined reporting y (sourcesOf b) (map (sources y) parts) q (r .0) t
+          (subst (List·Permᴰ (leaves t)) f k) o in
+          (g .0, g .1 ∙ sym (r .1)))),
+    )

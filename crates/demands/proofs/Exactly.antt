@@ -7,7 +7,7 @@ use Prim.Native.Nat.{ℕ, zero, suc, _<_}
 use native.Mathlib.Omega.{arith}
 use lib.Dec.{ltb}
 use lib.ListN.{length, getD}
-use borrow.Author.Tests.{ltb-true, lt-ltb}
+use borrow.Author.Tests.{ltb-true, ltb-false, lt-ltb}
 use Rattle.basis.specs.declared.Answer.{Answer}
 use Rattle.basis.specs.declared.Verdict.{Verdict}
 use Rattle.basis.specs.declared.Verdict.the-variants.{Passes, Refuses}
@@ -15,8 +15,10 @@ use Rattle.basis.specs.First.{first}
 use Rattle.basis.specs.Answers.{refuseIf, refuseAtFirst, firstRefusal, answer, Outcome, settled}
 use Rattle.basis.proofs.First.{clash, first-hits, first-misses, first-is}
 use Rattle.basis.proofs.Answers.{never}
+use Rattle.basis.proofs.Bytes.{length-splice}
 use Rattle.meaning.specs.Calls.{roomTest, written}
 use Rattle.demands.specs.Valid.{Each}
+use Rattle.demands.specs.Demand1.{Among, FromTable, Answers}
 use Rattle.demands.specs.Exactly.{Row, Nowhere, at, atLeast, numbered, FirstOf, Exactly}
 
 -- a test refuses exactly where its row does
@@ -106,10 +108,13 @@ decide-first test count number wrong right only n p =
         let f : p ≡ first test count = refuses-place e in
         let m : n ≡ number (first test count) = refuses-number e in
         let l : first test count < count = ltb-true (first test count) count t in
-        rw (f, m)
-        (l, right (first test count) l (first-hits test count l),
-        λ k q o w. clash (only k o (omega arith) w .0) (first-misses test count k q))
+        rw (f, m) (
+          l,
+          right (first test count) l (first-hits test count l),
+          λ k q o w. clash (only k o (omega arith) w .0) (first-misses test count k q),
+        )
     by false t e = absurd (never e)
+
     back : atLeast count wrong n p → refuseIf (ltb (first test count) count) (number (first test count)) (first test count) ≡ Refuses n p
     back r =
         let h = only p n (r .0) (r .1) in
@@ -125,58 +130,93 @@ unfolding settled
 settled-answer Passes made buffer = refl
 settled-answer (Refuses n p) made buffer = refl
 
-abbrev pub NumbersOf : List Row → Type 0
-NumbersOf [] = Unit {0}
-NumbersOf (row ∷ rows) = ((n p : ℕ) → row n p → n ≢ 0) × NumbersOf rows
+-- each row of a list refuses with one of some numbers
+abbrev pub NumbersOf : List ℕ → List Row → Type 0
+NumbersOf ns [] = Unit {0}
+NumbersOf ns (row ∷ rows) = ((n p : ℕ) → row n p → Among ns n) × NumbersOf ns rows
 
-first-number : (rows : List Row) → NumbersOf rows → (n p : ℕ) → FirstOf rows n p → n ≢ 0
-first-number [] h n p r = absurd r
-first-number (row ∷ rows) h n p r = ⊎-elim (λ w. h .0 n p w) (λ w. first-number rows (h .1) n p (w .1)) r
+first-among : (ns : List ℕ) (rows : List Row) → NumbersOf ns rows → (n p : ℕ) → FirstOf rows n p → Among ns n
+first-among ns [] h n p r = absurd r
+first-among ns (row ∷ rows) h n p r = ⊎-elim (λ w. h .0 n p w) (λ w. first-among ns rows (h .1) n p (w .1)) r
+
+among-positive : (ns : List ℕ) → Each (λ m. 0 < m) ns → (n : ℕ) → Among ns n → n ≢ 0
+among-positive [] h n a e = a
+among-positive (m ∷ ms) h n (inl q) e = omega (arith, h .0)
+among-positive (m ∷ ms) h n (inr a) e = among-positive ms (h .1) n a e
+
+-- the rows of a call, with numbers that are not 0
+pub record Numbered (ns : List ℕ) (rows : List Row) : Type 0 where
+  pub positive : Each (λ m. 0 < m) ns
+  pub among : NumbersOf ns rows
+
+first-number : (ns : List ℕ) (rows : List Row) → Numbered ns rows → (n p : ℕ) → FirstOf rows n p → n ≢ 0
+first-number ns rows z n p r = among-positive ns (z .positive) n (first-among ns rows (z .among) n p r)
 
 refusal-path : {m q n p : ℕ} → Refuses m q ≡ Refuses n p → _≡_ {A = Answer} (record { number = m; place = q; length = 0 }) (record { number = n; place = p; length = 0 })
 refusal-path e i = record { number = sym (refuses-number e) i; place = sym (refuses-place e) i; length = 0 }
 
 -- a call's answer is given exactly when its rows say; where it accepts, what it made has the length stated
-pub exactly : (v : Verdict) (rows : List Row) (made len : ℕ) → Decides v (FirstOf rows) → NumbersOf rows → (v ≡ Passes → made ≡ len) → Exactly rows len (answer v made)
-exactly Passes rows made len d z m =
+pub exactly : (v : Verdict) (ns : List ℕ) (rows : List Row) (made len : ℕ) → Decides v (FirstOf rows) → Numbered ns rows → (v ≡ Passes → made ≡ len) → Exactly rows len (answer v made)
+exactly Passes ns rows made len d z m =
     record {
       refused = λ n p h. (λ e. absurd (h (sym (ap (λ (a : Answer). a .number) e))), λ r. absurd (never (d n p .1 r)));
       accepted = (λ e n p r. never (d n p .1 r), λ h. refl);
       answer = λ e i. record { number = 0; place = 0; length = m refl i };
     }
-exactly (Refuses m q) rows made len d z l =
+exactly (Refuses m q) ns rows made len d z l =
     let fires = d m q .0 refl in
     record {
       refused = λ n p h.
           (λ e. d n p .0 (refuses-both (sym (ap (λ (a : Answer). a .number) e)) (sym (ap (λ (a : Answer). a .place) e))), λ r. refusal-path (d n p .1 r));
-      accepted = (λ e. absurd (first-number rows z m q fires e), λ h. absurd (h m q fires));
-      answer = λ e. absurd (first-number rows z m q fires e);
+      accepted = (λ e. absurd (first-number ns rows z m q fires e), λ h. absurd (h m q fires));
+      answer = λ e. absurd (first-number ns rows z m q fires e);
     }
 
 -- and so is that of a call that writes, by its tests and that of the room
-pub exactly-written : (tests : List Verdict) (rows : List Row) (made buffer : List ℕ) (len : ℕ) → DecideAll (tests ++ (roomTest made buffer ∷ [])) rows
-    → NumbersOf rows → (firstRefusal (tests ++ (roomTest made buffer ∷ [])) ≡ Passes → length made ≡ len)
+pub exactly-written : (tests : List Verdict) (ns : List ℕ) (rows : List Row) (made buffer : List ℕ) (len : ℕ) → DecideAll (tests ++ (roomTest made buffer ∷ [])) rows
+    → Numbered ns rows → (firstRefusal (tests ++ (roomTest made buffer ∷ [])) ≡ Passes → length made ≡ len)
     → Exactly rows len (written tests made buffer .answer)
 unfolding written
-exactly-written tests rows made buffer len d z m =
+exactly-written tests ns rows made buffer len d z m =
     let ts = tests ++ (roomTest made buffer ∷ []) in
     rw (settled-answer (firstRefusal ts) made buffer)
-    (exactly (firstRefusal ts) rows (length made) len (first-decides ts rows d) z m)
+    (exactly (firstRefusal ts) ns rows (length made) len (first-decides ts rows d) z m)
 
 -- an accepted call's tests all pass
-pub zero-passes : (tests : List Verdict) (rows : List Row) (made buffer : List ℕ) → DecideAll (tests ++ (roomTest made buffer ∷ [])) rows → NumbersOf rows
+pub zero-passes : (tests : List Verdict) (ns : List ℕ) (rows : List Row) (made buffer : List ℕ) → DecideAll (tests ++ (roomTest made buffer ∷ [])) rows → Numbered ns rows
     → written tests made buffer .answer .number ≡ 0 → firstRefusal (tests ++ (roomTest made buffer ∷ [])) ≡ Passes
 unfolding written
-zero-passes tests rows made buffer d z e =
+zero-passes tests ns rows made buffer d z e =
     let ts = tests ++ (roomTest made buffer ∷ []) in
     by (firstRefusal ts) refl (sym (ap (λ (a : Answer). a .number) (settled-answer (firstRefusal ts) made buffer)) ∙ e)
   where
     by : (v : Verdict) → firstRefusal (tests ++ (roomTest made buffer ∷ [])) ≡ v → answer v (length made) .number ≡ 0 → v ≡ Passes
     by Passes h q = refl
-    by (Refuses n p) h q = absurd (first-number rows z n p (first-decides (tests ++ (roomTest made buffer ∷ [])) rows d n p .0 h) q)
+    by (Refuses n p) h q = absurd (first-number ns rows z n p (first-decides (tests ++ (roomTest made buffer ∷ [])) rows d n p .0 h) q)
 
-pub nonzero : {k n : ℕ} → n ≡ suc k → n ≢ 0
-nonzero c e = omega arith
+pub answers-verdict : (v : Verdict) (ns : List ℕ) (rows : List Row) (len : ℕ) → Decides v (FirstOf rows) → Numbered ns rows → FromTable ns (answer v len)
+answers-verdict Passes ns rows len d z = inl (refl, refl)
+answers-verdict (Refuses n p) ns rows len d z = inr (first-among ns rows (z .among) n p (d n p .0 refl), refl)
+
+-- what any answer of such a call is
+pub answers : (tests : List Verdict) (ns : List ℕ) (rows : List Row) (made buffer : List ℕ) → DecideAll (tests ++ (roomTest made buffer ∷ [])) rows → Numbered ns rows
+    → Answers ns buffer (written tests made buffer)
+unfolding written settled
+answers tests ns rows made buffer d z =
+    let ts = tests ++ (roomTest made buffer ∷ []) in
+    by (firstRefusal ts) refl
+  where
+    by : (v : Verdict) → firstRefusal (tests ++ (roomTest made buffer ∷ [])) ≡ v → Answers ns buffer (settled v made buffer)
+    by Passes h =
+        let r = each-passes (roomTest made buffer ∷ []) (passed-append tests (roomTest made buffer ∷ []) h .1) in
+        let l = ltb-false (length buffer) (length made) (passed-if (ltb (length buffer) (length made)) 8 (length made) (r .0)) in
+        record { fromTable = inl (refl, refl); held = λ n. absurd (n refl); sized = length-splice buffer 0 made (omega arith) }
+    by (Refuses n p) h =
+        record {
+          fromTable = inr (first-among ns rows (z .among) n p (first-decides (tests ++ (roomTest made buffer ∷ [])) rows d n p .0 h), refl);
+          held = λ _. refl;
+          sized = refl;
+        }
 
 -- 8
 pub room-decides : (made buffer : List ℕ) (n : ℕ) → length made ≡ n → Decides (roomTest made buffer) (at 8 n (length buffer < n))

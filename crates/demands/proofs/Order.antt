@@ -44,8 +44,10 @@ module _ {A : Type 0} (key : A → ℕ) where
     where
       up : leb (key x) (key y) ≡ true
       up = le-leb (key x) (key y) (omega arith)
+
       down : leb (key y) (key x) ≡ false
       down = lt-leb (key y) (key x) h
+
       by : (b : Bool) → leb (key y) (key z) ≡ b → (c : Bool) → leb (key x) (key z) ≡ c
           → insertBy key x (insertBy key y zs) ≡ insertBy key y (insertBy key x zs)
           → insertBy key x (cond b (y ∷ z ∷ zs) (z ∷ insertBy key y zs)) ≡ insertBy key y (cond c (x ∷ z ∷ zs) (z ∷ insertBy key x zs))
@@ -65,9 +67,10 @@ module _ {A : Type 0} (key : A → ℕ) where
   distinct-perm List·Permᴰ·nil p = tt
   distinct-perm (List·Permᴰ·cons {l₂ = l₂} e d) p =
       (subst (λ (c : A). Each (λ y. key c ≢ key y) l₂) e (each-perm (λ y. key _ ≢ key y) d (p .0)), distinct-perm d (p .1))
-  distinct-perm (List·Permᴰ·swap {l = l} e f) p =
-      ((λ q. p .0 .0 (ap key e ∙ sym q ∙ sym (ap key f)), subst (λ (c : A). Each (λ y. key c ≢ key y) l) f (p .1 .0)),
-      (subst (λ (c : A). Each (λ y. key c ≢ key y) l) e (p .0 .1), p .1 .1))
+  distinct-perm (List·Permᴰ·swap {l = l} e f) p = (
+    (λ q. p .0 .0 (ap key e ∙ sym q ∙ sym (ap key f)), subst (λ (c : A). Each (λ y. key c ≢ key y) l) f (p .1 .0)),
+    (subst (λ (c : A). Each (λ y. key c ≢ key y) l) e (p .0 .1), p .1 .1),
+  )
   distinct-perm (List·Permᴰ·trans d f) p = distinct-perm f (distinct-perm d p)
 
   -- however a list of different keys is dealt, its order is the same

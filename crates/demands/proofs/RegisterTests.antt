@@ -64,20 +64,39 @@ year-decides y =
 
 pub header-decides : (b : List ℕ) → DecideAll (headerTests b) (headerRows b)
 unfolding headerTests
-header-decides b =
-    (decide-if (not (startsWith registerTag b)) 2 0 (take 4 b ≢ ascii "GREG")
-    (λ e f. clash (taken-starts registerTag b f) (not-true (startsWith registerTag b) e))
-    (λ e f. f (starts-tag registerTag b (omega arith) (not-false (startsWith registerTag b) e))),
-    λ _. (decide-is (numberAt 2 b 4) registerLayout 2 4,
-    λ _. (year-decides (yearOf b),
-    λ _. (decide-above mostSources (sourceCount b) 2 8,
-    λ _. (decide-above mostLines (lineCount b) 2 10,
-    λ _. (decide-above mostNameBytes (nameBytes b) 2 12,
-    λ _. (decide-is (numberAt 4 b 16) sourcesAt 2 16,
-    λ _. (decide-is (numberAt 4 b 20) (linesAt (sourceCount b)) 2 20,
-    λ _. (decide-is (numberAt 4 b 24) (namesAt (sourceCount b) (lineCount b)) 2 24,
-    λ _. (decide-either (numberAt 4 b 28) (wholeLength (sourceCount b) (lineCount b) (nameBytes b)) (length b) (wholeLength (sourceCount b) (lineCount b) (nameBytes b)) 2 28,
-    λ _. tt))))))))))
+header-decides b = (
+  decide-if (not (startsWith registerTag b)) 2 0 (take 4 b ≢ ascii "GREG")
+      (λ e f. clash (taken-starts registerTag b f) (not-true (startsWith registerTag b) e))
+      (λ e f. f (starts-tag registerTag b (omega arith) (not-false (startsWith registerTag b) e))),
+  λ _. (
+    decide-is (numberAt 2 b 4) registerLayout 2 4,
+    λ _. (
+      year-decides (yearOf b),
+      λ _. (
+        decide-above mostSources (sourceCount b) 2 8,
+        λ _. (
+          decide-above mostLines (lineCount b) 2 10,
+          λ _. (
+            decide-above mostNameBytes (nameBytes b) 2 12,
+            λ _. (
+              decide-is (numberAt 4 b 16) sourcesAt 2 16,
+              λ _. (
+                decide-is (numberAt 4 b 20) (linesAt (sourceCount b)) 2 20,
+                λ _. (
+                  decide-is (numberAt 4 b 24) (namesAt (sourceCount b) (lineCount b)) 2 24,
+                  λ _. (
+                    decide-either (numberAt 4 b 28) (wholeLength (sourceCount b) (lineCount b) (nameBytes b)) (length b) (wholeLength (sourceCount b) (lineCount b) (nameBytes b)) 2 28,
+                    λ _. tt,
+                  ),
+                ),
+              ),
+            ),
+          ),
+        ),
+      ),
+    ),
+  ),
+)
 
 -- a test that refuses with one number at the first index that is wrong
 pub decide-at-first : (number : ℕ) (test : ℕ → Bool) (count : ℕ) (W : ℕ → Type 0) → ((i : ℕ) → i < count → test i ≡ true → W i) → ((i : ℕ) → i < count → W i → test i ≡ true)
@@ -144,7 +163,8 @@ repeat-decides b =
 
 pub register-decides : (b : List ℕ) → DecideAll (registerTests b) (registerRows b)
 unfolding registerTests
-register-decides b =
-    (decide-if (ltb (length b) sourcesAt) 1 0 (length b < sourcesAt) (ltb-true (length b) sourcesAt) (λ e l. clash (lt-ltb (length b) sourcesAt l) e),
-    λ _. decide-append (headerTests b) (sourceTest b ∷ restTest b ∷ repeatTest (sourcesOf b) ∷ []) (headerRows b) _ (header-decides b)
-    (λ _. (source-decides b, λ _. (rest-decides b, λ _. (repeat-decides b, λ _. tt)))))
+register-decides b = (
+  decide-if (ltb (length b) sourcesAt) 1 0 (length b < sourcesAt) (ltb-true (length b) sourcesAt) (λ e l. clash (lt-ltb (length b) sourcesAt l) e),
+  λ _. decide-append (headerTests b) (sourceTest b ∷ restTest b ∷ repeatTest (sourcesOf b) ∷ []) (headerRows b) _ (header-decides b)
+      (λ _. (source-decides b, λ _. (rest-decides b, λ _. (repeat-decides b, λ _. tt)))),
+)

@@ -31,9 +31,10 @@ distinct-lt key d (x ∷ xs) h (suc i) (suc j) l m = distinct-lt key d xs (h .1)
 
 pub lt-distinct : {A : Type 0} (key : A → ℕ) (d : A) (xs : List A) → ((i j : ℕ) → j < i → i < length xs → key (getD xs j d) ≢ key (getD xs i d)) → Distinct key xs
 lt-distinct key d [] h = tt
-lt-distinct key d (x ∷ xs) h =
-    (at-each (λ y. key x ≢ key y) xs d (λ i l. h (suc i) 0 (suc-le-suc zero-le) (suc-le-suc l)),
-    lt-distinct key d xs (λ i j l m. h (suc i) (suc j) (suc-le-suc l) (suc-le-suc m)))
+lt-distinct key d (x ∷ xs) h = (
+  at-each (λ y. key x ≢ key y) xs d (λ i l. h (suc i) 0 (suc-le-suc zero-le) (suc-le-suc l)),
+  lt-distinct key d xs (λ i j l m. h (suc i) (suc j) (suc-le-suc l) (suc-le-suc m)),
+)
 
 -- no number is repeated exactly if the numbers are different
 not-repeated : (ss : List Source) → repeatTest ss ≡ Passes → Distinct sourceNumber ss
@@ -75,23 +76,23 @@ passed b e =
     let r = or-false _ _ (passed-if _ 3 (sourceCount b) (h2 .1 .1 .0)) in
     record {
       laid =
-        record {
-          long = ltb-false _ _ (passed-if _ 1 0 (h .0));
-          tag = starts-tag registerTag b tag (not-false _ (passed-if _ 2 0 (h .1 .0)));
-          layout = same _ _ 2 4 (h .1 .1 .0);
-          year = (leb-true _ _ (y .0), leb-true _ _ (y .1));
-          sources = ltb-false _ _ (passed-if _ 2 8 (h .1 .1 .1 .1 .0));
-          lines = ltb-false _ _ (passed-if _ 2 10 (h .1 .1 .1 .1 .1 .0));
-          names = ltb-false _ _ (passed-if _ 2 12 (h .1 .1 .1 .1 .1 .1 .0));
-          atSources = same _ _ 2 16 (h .1 .1 .1 .1 .1 .1 .1 .0);
-          atLines = same _ _ 2 20 (h .1 .1 .1 .1 .1 .1 .1 .1 .0);
-          atNames = same _ _ 2 24 (h .1 .1 .1 .1 .1 .1 .1 .1 .1 .0);
-          whole = eqb-true _ _ (not-false _ (w .0));
-          filled = eqb-true _ _ (not-false _ (w .1));
-          placed = λ i l. or-false (misplaced b i) (unsound (sourceAt b i)) (placed i l) .0;
-          lastLine = eqb-true _ _ (not-false _ (r .0));
-          lastName = eqb-true _ _ (not-false _ (r .1));
-        };
+          record {
+            long = ltb-false _ _ (passed-if _ 1 0 (h .0));
+            tag = starts-tag registerTag b tag (not-false _ (passed-if _ 2 0 (h .1 .0)));
+            layout = same _ _ 2 4 (h .1 .1 .0);
+            year = (leb-true _ _ (y .0), leb-true _ _ (y .1));
+            sources = ltb-false _ _ (passed-if _ 2 8 (h .1 .1 .1 .1 .0));
+            lines = ltb-false _ _ (passed-if _ 2 10 (h .1 .1 .1 .1 .1 .0));
+            names = ltb-false _ _ (passed-if _ 2 12 (h .1 .1 .1 .1 .1 .1 .0));
+            atSources = same _ _ 2 16 (h .1 .1 .1 .1 .1 .1 .1 .0);
+            atLines = same _ _ 2 20 (h .1 .1 .1 .1 .1 .1 .1 .1 .0);
+            atNames = same _ _ 2 24 (h .1 .1 .1 .1 .1 .1 .1 .1 .1 .0);
+            whole = eqb-true _ _ (not-false _ (w .0));
+            filled = eqb-true _ _ (not-false _ (w .1));
+            placed = λ i l. or-false (misplaced b i) (unsound (sourceAt b i)) (placed i l) .0;
+            lastLine = eqb-true _ _ (not-false _ (r .0));
+            lastName = eqb-true _ _ (not-false _ (r .1));
+          };
       sound = λ i l. or-false (misplaced b i) (unsound (sourceAt b i)) (placed i l) .1;
       once = not-repeated (sourcesOf b) (h2 .1 .1 .1 .0);
     }
@@ -109,20 +110,45 @@ passing b h =
     let l = h .laid in
     let n = sourceCount b in
     let whole = wholeLength n (lineCount b) (nameBytes b) in
-    passes-each (registerTests b)
-    (if-passed (ltb (length b) sourcesAt) 1 0 (le-ltb (length b) sourcesAt (l .long)),
-    (if-passed (not (startsWith registerTag b)) 2 0 (ap not (taken-starts registerTag b (l .tag))),
-    (differs (numberAt 2 b 4) registerLayout 2 4 (l .layout),
-    (if-passed (not (isYear (yearOf b))) 2 6 (ap not (true-and (leb 1990 (yearOf b)) (leb (yearOf b) 2100) (le-leb _ _ (l .year .0)) (le-leb _ _ (l .year .1)))),
-    (within-most mostSources n 2 8 (l .sources),
-    (within-most mostLines (lineCount b) 2 10 (l .lines),
-    (within-most mostNameBytes (nameBytes b) 2 12 (l .names),
-    (differs (numberAt 4 b 16) sourcesAt 2 16 (l .atSources),
-    (differs (numberAt 4 b 20) (linesAt n) 2 20 (l .atLines),
-    (differs (numberAt 4 b 24) (namesAt n (lineCount b)) 2 24 (l .atNames),
-    (if-passed (not (eqb (numberAt 4 b 28) whole) || not (eqb (length b) whole)) 2 28
-    (false-or (not (eqb (numberAt 4 b 28) whole)) (not (eqb (length b) whole)) (ap not (eq-eqb _ _ (l .whole))) (ap not (eq-eqb _ _ (l .filled)))),
-    (passed-at-all 3 (wrongSource b) n .1 (λ i m. false-or (misplaced b i) (unsound (sourceAt b i)) (l .placed i m) (h .sound i m)),
-    (if-passed (not (eqb (lineStart b n) (lineCount b)) || not (eqb (nameStart b n) (nameBytes b))) 3 n
-    (false-or (not (eqb (lineStart b n) (lineCount b))) (not (eqb (nameStart b n) (nameBytes b))) (ap not (eq-eqb _ _ (l .lastLine))) (ap not (eq-eqb _ _ (l .lastName)))),
-    (repeated-not (sourcesOf b) (h .once), tt))))))))))))))
+    passes-each (registerTests b) (
+      if-passed (ltb (length b) sourcesAt) 1 0 (le-ltb (length b) sourcesAt (l .long)),
+      (
+        if-passed (not (startsWith registerTag b)) 2 0 (ap not (taken-starts registerTag b (l .tag))),
+        (
+          differs (numberAt 2 b 4) registerLayout 2 4 (l .layout),
+          (
+            if-passed (not (isYear (yearOf b))) 2 6 (ap not (true-and (leb 1990 (yearOf b)) (leb (yearOf b) 2100) (le-leb _ _ (l .year .0)) (le-leb _ _ (l .year .1)))),
+            (
+              within-most mostSources n 2 8 (l .sources),
+              (
+                within-most mostLines (lineCount b) 2 10 (l .lines),
+                (
+                  within-most mostNameBytes (nameBytes b) 2 12 (l .names),
+                  (
+                    differs (numberAt 4 b 16) sourcesAt 2 16 (l .atSources),
+                    (
+                      differs (numberAt 4 b 20) (linesAt n) 2 20 (l .atLines),
+                      (
+                        differs (numberAt 4 b 24) (namesAt n (lineCount b)) 2 24 (l .atNames),
+                        (
+                          if-passed (not (eqb (numberAt 4 b 28) whole) || not (eqb (length b) whole)) 2 28
+                              (false-or (not (eqb (numberAt 4 b 28) whole)) (not (eqb (length b) whole)) (ap not (eq-eqb _ _ (l .whole))) (ap not (eq-eqb _ _ (l .filled)))),
+                          (
+                            passed-at-all 3 (wrongSource b) n .1 (λ i m. false-or (misplaced b i) (unsound (sourceAt b i)) (l .placed i m) (h .sound i m)),
+                            (
+                              if-passed (not (eqb (lineStart b n) (lineCount b)) || not (eqb (nameStart b n) (nameBytes b))) 3 n
+                                  (false-or (not (eqb (lineStart b n) (lineCount b))) (not (eqb (nameStart b n) (nameBytes b))) (ap not (eq-eqb _ _ (l .lastLine))) (ap not (eq-eqb _ _ (l .lastName)))),
+                              (repeated-not (sourcesOf b) (h .once), tt),
+                            ),
+                          ),
+                        ),
+                      ),
+                    ),
+                  ),
+                ),
+              ),
+            ),
+          ),
+        ),
+      ),
+    )

@@ -52,9 +52,10 @@ neutral b buffer g o =
     let right = combined-writes y es [] (r .0) z (each-none (λ x w. entryNumber x ≢ entryNumber w) es) (omega arith) buffer (omega arith) in
     let left = combined-writes y [] es z (r .0) tt (omega arith) buffer (omega arith) in
     let e = in-order (es ++ []) es (r .0) (subst (List·Permᴰ es) (sym (append-nil es)) (Permᴰ·refl es)) in
-    let f = in-order es es (r .0) (Permᴰ·refl es) in
-    (subst (λ (x : List ℕ). Gives x (reportBytes y []) buffer x) (r .1) (right .0, right .1 ∙ ap (reportBytes y) e),
-    subst (λ (x : List ℕ). Gives (reportBytes y []) x buffer x) (r .1) (left .0, left .1 ∙ ap (reportBytes y) f))
+    let f = in-order es es (r .0) (Permᴰ·refl es) in (
+      subst (λ (x : List ℕ). Gives x (reportBytes y []) buffer x) (r .1) (right .0, right .1 ∙ ap (reportBytes y) e),
+      subst (λ (x : List ℕ). Gives (reportBytes y []) x buffer x) (r .1) (left .0, left .1 ∙ ap (reportBytes y) f),
+    )
 
 -- the entries but one, with that one, are the entries
 without-perm : (e : Entry) (es : List Entry) → Distinct entryNumber es → (i : ℕ) → i < length es → getD es i e ≡ e → List·Permᴰ (e ∷ without (numbered (e .number)) es) es
@@ -80,10 +81,11 @@ removed-writes y x es v h result o =
     let long : length made ≡ reportLength (length (without (numbered x) es)) = ap length is ∙ length-report y (without (numbered x) es) (without-make x es v) in
     let there : any (numbered x) (entriesOf b) ≡ true = ap (any (numbered x)) (entries-back y es v) ∙ h in
     let r =
-          accepted-written (formTest b 1 ∷ absentTest b x ∷ []) made result
-          (passes-each (formTest b 1 ∷ absentTest b x ∷ roomTest made result ∷ [])
-          (if-passed (not (wellFormed b)) 9 1 (ap not (report-right y es v)),
-          (if-passed (not (any (numbered x) (entriesOf b))) 13 x (ap not there), (enough-room made result (omega arith), tt)))) in
+    accepted-written (formTest b 1 ∷ absentTest b x ∷ []) made result
+    (passes-each (formTest b 1 ∷ absentTest b x ∷ roomTest made result ∷ []) (
+      if-passed (not (wellFormed b)) 9 1 (ap not (report-right y es v)),
+      (if-passed (not (any (numbered x) (entriesOf b))) 13 x (ap not there), (enough-room made result (omega arith), tt)),
+    )) in
     (r .0, r .1 ∙ is)
 
 -- on lists of entries: what is removed and combined again
@@ -127,13 +129,14 @@ module _ (y : ℕ) (es : List Entry) (v : Reportable y es) (e : Entry) (i : ℕ)
       let n = without-one (e .number) es (ascending-distinct entryNumber 0 es (v .order)) present in
       let few = v .count in
       let left =
-            combined-writes y others (e ∷ []) rest single (apart entryNumber others (e ∷ []) (distinct-perm entryNumber behind distinct)) (omega arith) buffer (omega arith) in
-      let right = combined-writes y (e ∷ []) others single rest (apart entryNumber (e ∷ []) others distinct) (omega arith) buffer (omega arith) in
-      (r .0,
-      subst (λ (x : List ℕ). Gives x (reportBytes y (e ∷ [])) buffer (reportBytes y es)) (sym (r .1))
-      (left .0, left .1 ∙ ap (reportBytes y) (in-order (others ++ (e ∷ [])) es v (List·Permᴰ·trans taken-out behind))),
-      subst (λ (x : List ℕ). Gives (reportBytes y (e ∷ [])) x buffer (reportBytes y es)) (sym (r .1))
-      (right .0, right .1 ∙ ap (reportBytes y) (in-order (e ∷ others) es v taken-out)))
+      combined-writes y others (e ∷ []) rest single (apart entryNumber others (e ∷ []) (distinct-perm entryNumber behind distinct)) (omega arith) buffer (omega arith) in
+      let right = combined-writes y (e ∷ []) others single rest (apart entryNumber (e ∷ []) others distinct) (omega arith) buffer (omega arith) in (
+        r .0,
+        subst (λ (x : List ℕ). Gives x (reportBytes y (e ∷ [])) buffer (reportBytes y es)) (sym (r .1))
+            (left .0, left .1 ∙ ap (reportBytes y) (in-order (others ++ (e ∷ [])) es v (List·Permᴰ·trans taken-out behind))),
+        subst (λ (x : List ℕ). Gives (reportBytes y (e ∷ [])) x buffer (reportBytes y es)) (sym (r .1))
+            (right .0, right .1 ∙ ap (reportBytes y) (in-order (e ∷ others) es v taken-out)),
+      )
 
 pub again-report : Again
 again-report b result buffer i e g l q o p =

@@ -25,11 +25,12 @@ use Rattle.meaning.specs.Text.{reportText}
 use Rattle.meaning.specs.Calls.{formTest, yearTest, sharedAt, sharedTest, countTest, roomTest, bothEntries, numbered, absentTest, combined, removed, checked, text}
 use Rattle.meaning.proofs.Laws.{length-inOrder}
 use Rattle.demands.specs.Valid.{Each, Entered, Ascending, Distinct, entryNumber, Reportable}
+use Rattle.demands.specs.Demand1.{FromTable, Answers}
 use Rattle.demands.specs.Exactly.{Row, Nowhere, at, FirstOf, Exactly}
 use Rattle.demands.specs.Refusals.{NoReport, HasNumber, InBoth, roomRow, combinationRows, removalRows, checkRows, textLength, textRows}
 use Rattle.demands.proofs.Lists.{not-both, any-some, some-any, any-map, each-at, at-each}
 use Rattle.demands.proofs.Order.{each-map, each-append, ascending-each, ascending-distinct, ascending-lt, sorted-each, sorted-ascending, distinct-append}
-use Rattle.demands.proofs.Exactly.{Decides, DecideAll, each-passes, passes-nowhere, first-decides, exactly, exactly-written, nonzero, room-decides, decide-if, refuses-number, refuses-place, refuses-both}
+use Rattle.demands.proofs.Exactly.{Decides, DecideAll, each-passes, passes-nowhere, first-decides, exactly, exactly-written, answers, answers-verdict, Numbered, room-decides, decide-if, refuses-number, refuses-place, refuses-both}
 use Rattle.demands.proofs.Reports.{noEntry, report-right, length-report}
 use Rattle.demands.proofs.WellFormed.{formed, reportable, report-again, count-is, entry-at}
 
@@ -134,24 +135,28 @@ module _ (one other : List ℕ) (h : Bytes one) (g : Bytes other) (w : wellForme
     where
       i : ℕ
       i = first shared-test (length (numbers one))
+
       by : (b : Bool) → ltb i (length (numbers one)) ≡ b → refuseIf b 11 (getD (numbers one) i 0) ≡ Refuses n p
           → (n ≡ 11) × InBoth one other p × ((x : ℕ) → x < p → InBoth one other x → ⊥)
       by true t e =
           let q : i < length (numbers one) = ltb-true i (length (numbers one)) t in
           let l : i < entryCount one = omega (arith, long) in
-          let f : p ≡ numberAt 4 (entryAt one i) 0 = refuses-place e ∙ place-at i l in
-          (refuses-number e, rw f (both-at i l (first-hits shared-test (length (numbers one)) q)),
-          λ x m r. clash (at-both x r) (first-misses shared-test (length (numbers one)) (r .0 .0) (index-lt (r .0 .0) i (r .0 .1) l (rw (← f, r .0 .2) m))))
+          let f : p ≡ numberAt 4 (entryAt one i) 0 = refuses-place e ∙ place-at i l in (
+            refuses-number e,
+            rw f (both-at i l (first-hits shared-test (length (numbers one)) q)),
+            λ x m r. clash (at-both x r) (first-misses shared-test (length (numbers one)) (r .0 .0) (index-lt (r .0 .0) i (r .0 .1) l (rw (← f, r .0 .2) m))),
+          )
       by false t e = absurd (never e)
+
       back : (n ≡ 11) × InBoth one other p × ((x : ℕ) → x < p → InBoth one other x → ⊥) → refuseIf (ltb i (length (numbers one))) 11 (getD (numbers one) i 0) ≡ Refuses n p
       back r =
           let k = r .1 .0 .0 in
           let l : k < entryCount one = r .1 .0 .1 in
           let q : k < length (numbers one) = omega (arith, long) in
           let f : first shared-test (length (numbers one)) ≡ k =
-                first-is shared-test (length (numbers one)) k q
-                (λ j m. not-both (shared-test j) (λ t. r .2 (numberAt 4 (entryAt one j) 0) (rw (r .1 .0 .2) at (number-lt j k m l)) (both-at j (omega arith) t)))
-                (at-both p (r .1)) in
+          first-is shared-test (length (numbers one)) k q
+          (λ j m. not-both (shared-test j) (λ t. r .2 (numberAt 4 (entryAt one j) 0) (rw (r .1 .0 .2) at (number-lt j k m l)) (both-at j (omega arith) t)))
+          (at-both p (r .1)) in
           rw (f, lt-ltb k (length (numbers one)) q) (refuses-both (r .0) (sym (r .1 .0 .2) ∙ sym (place-at k l)))
 
   pub passed-shared : sharedTest one other ≡ Passes → (x : ℕ) → InBoth one other x → ⊥
@@ -172,9 +177,9 @@ module _ (one other : List ℕ) (h : Bytes one) (g : Bytes other) (w : wellForme
       at-each (λ x. Each (λ z. entryNumber x ≢ entryNumber z) (entriesOf other)) (entriesOf one) noEntry
       (λ i l. at-each (λ z. entryNumber (getD (entriesOf one) i noEntry) ≢ entryNumber z) (entriesOf other) noEntry
       (λ j m e.
-          let p : i < entryCount one = rw (counted one h w) at l in
-          let q : j < entryCount other = rw (counted other g v) at m in
-          a (numberAt 4 (entryAt one i) 0) ((i, p, refl), (j, q, sym (number-at other g v j q) ∙ sym e ∙ number-at one h w i p))))
+      let p : i < entryCount one = rw (counted one h w) at l in
+      let q : j < entryCount other = rw (counted other g v) at m in
+      a (numberAt 4 (entryAt one i) 0) ((i, p, refl), (j, q, sym (number-at other g v j q) ∙ sym e ∙ number-at one h w i p))))
 
 -- entries of two lists that make reports, apart and not too many, make a report
 pub both-make : {y z : ℕ} (xs zs : List Entry) → Reportable y xs → Reportable z zs → Each (λ x. Each (λ z. entryNumber x ≢ entryNumber z) zs) xs
@@ -185,9 +190,9 @@ both-make xs zs v w a l =
       inRange = v .inRange;
       count = rw (length-sortedBy entryNumber (xs ++ zs), length-append) l;
       order =
-        sorted-ascending entryNumber 0 (xs ++ zs)
-        (each-append (λ e. 0 < entryNumber e) xs zs (ascending-each entryNumber 0 xs (v .order)) (ascending-each entryNumber 0 zs (w .order)))
-        (distinct-append entryNumber xs zs (ascending-distinct entryNumber 0 xs (v .order)) (ascending-distinct entryNumber 0 zs (w .order)) a);
+          sorted-ascending entryNumber 0 (xs ++ zs)
+          (each-append (λ e. 0 < entryNumber e) xs zs (ascending-each entryNumber 0 xs (v .order)) (ascending-each entryNumber 0 zs (w .order)))
+          (distinct-append entryNumber xs zs (ascending-distinct entryNumber 0 xs (v .order)) (ascending-distinct entryNumber 0 zs (w .order)) a);
       each = sorted-each entryNumber Entered (xs ++ zs) (each-append Entered xs zs (v .each) (w .each));
     }
 
@@ -209,9 +214,10 @@ module _ (one other : List ℕ) (h : Bytes one) (g : Bytes other) where
       let v = passed-form other 2 q in
       let few = nowhere-at (passes-nowhere (countTest one other) _ (count-decides one other) c) in
       let n : length (entriesOf one) + length (entriesOf other) ≡ entryCount one + entryCount other = rw (counted one h w, counted other g v) in
-      let m : length (entriesOf one) + length (entriesOf other) ≤ mostSources = omega arith in
-      (both-make (entriesOf one) (entriesOf other) (made-of one h w) (made-of other g v) (entries-apart one other h g w v (passed-shared one other h g w v s)) m,
-      length-inOrder (entriesOf one ++ entriesOf other) ∙ length-append (entriesOf one) (entriesOf other) ∙ n)
+      let m : length (entriesOf one) + length (entriesOf other) ≤ mostSources = omega arith in (
+        both-make (entriesOf one) (entriesOf other) (made-of one h w) (made-of other g v) (entries-apart one other h g w v (passed-shared one other h g w v s)) m,
+        length-inOrder (entriesOf one ++ entriesOf other) ∙ length-append (entriesOf one) (entriesOf other) ∙ n,
+      )
 
   both-length : formTest one 1 ≡ Passes → formTest other 2 ≡ Passes → sharedTest one other ≡ Passes → countTest one other ≡ Passes
       → length (reportBytes (reportYear one) (bothEntries one other)) ≡ reportLength (entryCount one + entryCount other)
@@ -221,22 +227,60 @@ module _ (one other : List ℕ) (h : Bytes one) (g : Bytes other) where
 
   pub combination-decides : (report : List ℕ)
       → DecideAll
-        (formTest one 1 ∷ formTest other 2 ∷ yearTest one other ∷ sharedTest one other ∷ countTest one other ∷ roomTest (reportBytes (reportYear one) (bothEntries one other)) report ∷ [])
-        (combinationRows one other (length report))
-  combination-decides report =
-      (form-decides one 1 h, λ p. (form-decides other 2 g, λ q. (year-decides one other, λ y.
-      (shared-decides one other h g (passed-form one 1 p) (passed-form other 2 q), λ s. (count-decides one other, λ c.
-      (room-decides (reportBytes (reportYear one) (bothEntries one other)) report (reportLength (entryCount one + entryCount other)) (both-length p q s c), λ _. tt))))))
+      (formTest one 1 ∷ formTest other 2 ∷ yearTest one other ∷ sharedTest one other ∷ countTest one other ∷ roomTest (reportBytes (reportYear one) (bothEntries one other)) report ∷ [])
+      (combinationRows one other (length report))
+  combination-decides report = (
+    form-decides one 1 h,
+    λ p. (
+      form-decides other 2 g,
+      λ q. (
+        year-decides one other,
+        λ y. (
+          shared-decides one other h g (passed-form one 1 p) (passed-form other 2 q),
+          λ s. (
+            count-decides one other,
+            λ c.
+                (room-decides (reportBytes (reportYear one) (bothEntries one other)) report (reportLength (entryCount one + entryCount other)) (both-length p q s c), λ _. tt),
+          ),
+        ),
+      ),
+    ),
+  )
+
+  numbered-9-12 : (report : List ℕ) → Numbered (8 ∷ 9 ∷ 10 ∷ 11 ∷ 12 ∷ []) (combinationRows one other (length report))
+  numbered-9-12 report =
+      record {
+        positive = omega arith;
+        among = (
+          λ n p r. inr (inl (r .0)),
+          (
+            λ n p r. inr (inl (r .0)),
+            (
+              λ n p r. inr (inr (inl (r .0))),
+              (
+                λ n p r. inr (inr (inr (inl (r .0)))),
+                (λ n p r. inr (inr (inr (inr (inl (r .0))))), (λ n p r. inl (r .0), tt)),
+              ),
+            ),
+          ),
+        );
+      }
 
   pub combination-exactly : (report : List ℕ) → Exactly (combinationRows one other (length report)) (reportLength (entryCount one + entryCount other)) (combined one other report .answer)
   unfolding combined
   combination-exactly report =
       exactly-written
-      (formTest one 1 ∷ formTest other 2 ∷ yearTest one other ∷ sharedTest one other ∷ countTest one other ∷ [])
+      (formTest one 1 ∷ formTest other 2 ∷ yearTest one other ∷ sharedTest one other ∷ countTest one other ∷ []) (8 ∷ 9 ∷ 10 ∷ 11 ∷ 12 ∷ [])
       (combinationRows one other (length report)) (reportBytes (reportYear one) (bothEntries one other)) report (reportLength (entryCount one + entryCount other))
       (combination-decides report)
-      (λ n p r. nonzero (r .0), (λ n p r. nonzero (r .0), (λ n p r. nonzero (r .0), (λ n p r. nonzero (r .0), (λ n p r. nonzero (r .0), (λ n p r. nonzero (r .0), tt))))))
+      (numbered-9-12 report)
       (λ e. let p = each-passes _ e in both-length (p .0) (p .1 .0) (p .1 .1 .1 .0) (p .1 .1 .1 .1 .0))
+
+  pub combination-answers : (report : List ℕ) → Answers (8 ∷ 9 ∷ 10 ∷ 11 ∷ 12 ∷ []) report (combined one other report)
+  unfolding combined
+  combination-answers report =
+      answers (formTest one 1 ∷ formTest other 2 ∷ yearTest one other ∷ sharedTest one other ∷ countTest one other ∷ []) (8 ∷ 9 ∷ 10 ∷ 11 ∷ 12 ∷ [])
+      (combinationRows one other (length report)) (reportBytes (reportYear one) (bothEntries one other)) report (combination-decides report) (numbered-9-12 report)
 
 -- Removal
 pub without-each : (P : Entry → Type 0) (x : ℕ) (es : List Entry) → Each P es → Each P (without (numbered x) es)
@@ -304,36 +348,73 @@ module _ (report : List ℕ) (number : ℕ) (h : Bytes report) where
       let w = passed-form report 1 p in
       let v = made-of report h w in
       let present : any (numbered number) (entriesOf report) ≡ true =
-            not-false _ (not-both (not (any (numbered number) (entriesOf report)))
-            (λ e. nowhere-at (passes-nowhere (absentTest report number) _ (absent-decides report number h w) a) (λ r. clash (has report h w number r) (not-true _ e)))) in
+      not-false _ (not-both (not (any (numbered number) (entriesOf report)))
+      (λ e. nowhere-at (passes-nowhere (absentTest report number) _ (absent-decides report number h w) a) (λ r. clash (has report h w number r) (not-true _ e)))) in
       let one = without-one number (entriesOf report) (ascending-distinct entryNumber 0 (entriesOf report) (v .order)) present in
       length-report (reportYear report) (without (numbered number) (entriesOf report)) (without-make number (entriesOf report) v)
       ∙ ap reportLength (omega (arith, one, counted report h w))
 
+  abbrev rest : List ℕ
+  rest = reportBytes (reportYear report) (without (numbered number) (entriesOf report))
+
+  removal-decides : (result : List ℕ) → DecideAll (formTest report 1 ∷ absentTest report number ∷ roomTest rest result ∷ []) (removalRows report number (length result))
+  removal-decides result = (
+    form-decides report 1 h,
+    λ p. (
+      absent-decides report number h (passed-form report 1 p),
+      λ a.
+          (room-decides rest result (reportLength (entryCount report - 1)) (rest-length p a), λ _. tt),
+    ),
+  )
+
+  numbered-9-13 : (result : List ℕ) → Numbered (8 ∷ 9 ∷ 13 ∷ []) (removalRows report number (length result))
+  numbered-9-13 result =
+      record { positive = omega arith; among = (λ n p r. inr (inl (r .0)), (λ n p r. inr (inr (inl (r .0))), (λ n p r. inl (r .0), tt))) }
+
   pub removal-exactly : (result : List ℕ) → Exactly (removalRows report number (length result)) (reportLength (entryCount report - 1)) (removed report number result .answer)
   unfolding removed
   removal-exactly result =
-      exactly-written
-      (formTest report 1 ∷ absentTest report number ∷ [])
-      (removalRows report number (length result)) (reportBytes (reportYear report) (without (numbered number) (entriesOf report))) result (reportLength (entryCount report - 1))
-      (form-decides report 1 h, λ p. (absent-decides report number h (passed-form report 1 p), λ a.
-      (room-decides (reportBytes (reportYear report) (without (numbered number) (entriesOf report))) result (reportLength (entryCount report - 1)) (rest-length p a), λ _. tt)))
-      (λ n p r. nonzero (r .0), (λ n p r. nonzero (r .0), (λ n p r. nonzero (r .0), tt)))
-      (λ e. let p = each-passes _ e in rest-length (p .0) (p .1 .0))
+      exactly-written (formTest report 1 ∷ absentTest report number ∷ []) (8 ∷ 9 ∷ 13 ∷ []) (removalRows report number (length result)) rest result
+      (reportLength (entryCount report - 1)) (removal-decides result) (numbered-9-13 result) (λ e. let p = each-passes _ e in rest-length (p .0) (p .1 .0))
+
+  pub removal-answers : (result : List ℕ) → Answers (8 ∷ 9 ∷ 13 ∷ []) result (removed report number result)
+  unfolding removed
+  removal-answers result =
+      answers (formTest report 1 ∷ absentTest report number ∷ []) (8 ∷ 9 ∷ 13 ∷ []) (removalRows report number (length result)) rest result (removal-decides result) (numbered-9-13 result)
 
 first-decides-one : (v : Verdict) (row : Row) → Decides v row → Decides v (FirstOf (row ∷ []))
 first-decides-one v row d n p = (λ e. inl (d n p .0 e), λ r. ⊎-elim (λ q. d n p .1 q) (λ q. absurd (q .1)) r)
 
-pub check-exactly : (report : List ℕ) → Bytes report → Exactly (checkRows report) (length report) (checked report)
-unfolding checked
-check-exactly report h =
-    exactly (formTest report 1) (checkRows report) (length report) (length report)
-    (first-decides-one (formTest report 1) (at 9 1 (NoReport report)) (form-decides report 1 h)) (λ n p r. nonzero (r .0), tt) (λ e. refl)
+module _ (report : List ℕ) (h : Bytes report) where
+  numbered-9 : Numbered (9 ∷ []) (checkRows report)
+  numbered-9 = record { positive = omega arith; among = (λ n p r. inl (r .0), tt) }
 
-pub text-exactly : (report buffer : List ℕ) → Bytes report → Exactly (textRows report (length buffer)) (textLength report) (text report buffer .answer)
-unfolding text
-text-exactly report buffer h =
-    exactly-written (formTest report 1 ∷ []) (textRows report (length buffer)) (reportText (reportYear report) (entriesOf report)) buffer (textLength report)
-    (form-decides report 1 h, λ p. (room-decides (reportText (reportYear report) (entriesOf report)) buffer (textLength report) refl, λ _. tt))
-    (λ n p r. nonzero (r .0), (λ n p r. nonzero (r .0), tt))
-    (λ e. refl)
+  check-decides : Decides (formTest report 1) (FirstOf (checkRows report))
+  check-decides = first-decides-one (formTest report 1) (at 9 1 (NoReport report)) (form-decides report 1 h)
+
+  pub check-exactly : Exactly (checkRows report) (length report) (checked report)
+  unfolding checked
+  check-exactly = exactly (formTest report 1) (9 ∷ []) (checkRows report) (length report) (length report) check-decides numbered-9 (λ e. refl)
+
+  pub check-answers : FromTable (9 ∷ []) (checked report)
+  unfolding checked
+  check-answers = answers-verdict (formTest report 1) (9 ∷ []) (checkRows report) (length report) check-decides numbered-9
+
+  abbrev shown : List ℕ
+  shown = reportText (reportYear report) (entriesOf report)
+
+  text-decides : (buffer : List ℕ) → DecideAll (formTest report 1 ∷ roomTest shown buffer ∷ []) (textRows report (length buffer))
+  text-decides buffer = (form-decides report 1 h, λ p. (room-decides shown buffer (textLength report) refl, λ _. tt))
+
+  numbered-8-9 : (buffer : List ℕ) → Numbered (8 ∷ 9 ∷ []) (textRows report (length buffer))
+  numbered-8-9 buffer = record { positive = omega arith; among = (λ n p r. inr (inl (r .0)), (λ n p r. inl (r .0), tt)) }
+
+  pub text-exactly : (buffer : List ℕ) → Exactly (textRows report (length buffer)) (textLength report) (text report buffer .answer)
+  unfolding text
+  text-exactly buffer =
+      exactly-written (formTest report 1 ∷ []) (8 ∷ 9 ∷ []) (textRows report (length buffer)) shown buffer (textLength report) (text-decides buffer) (numbered-8-9 buffer) (λ e. refl)
+
+  pub text-answers : (buffer : List ℕ) → Answers (8 ∷ 9 ∷ []) buffer (text report buffer)
+  unfolding text
+  text-answers buffer =
+      answers (formTest report 1 ∷ []) (8 ∷ 9 ∷ []) (textRows report (length buffer)) shown buffer (text-decides buffer) (numbered-8-9 buffer)

@@ -243,11 +243,12 @@ module _ (y : ℕ) (es : List Entry) (v : Reportable y es) where
 
   row-is : (i : ℕ) → i < length es → (rest : List ℕ) × (entryAt (reportBytes y es) i ≡ entryBytes (getD es i noEntry) ++ rest)
   unfolding rows
-  row-is i l =
-      (joined (map entryBytes (drop (suc i) es)) ++ [],
-      sym (drop-drop (entryLength * i) entriesAt (reportBytes y es))
-      ∙ ap (drop (entryLength * i)) (rows-behind ∙ sym (append-nil rows))
-      ∙ row-at entryBytes entryIn entryLength Entered length-entry noEntry [] es i l (v .each))
+  row-is i l = (
+    joined (map entryBytes (drop (suc i) es)) ++ [],
+    sym (drop-drop (entryLength * i) entriesAt (reportBytes y es))
+        ∙ ap (drop (entryLength * i)) (rows-behind ∙ sym (append-nil rows))
+        ∙ row-at entryBytes entryIn entryLength Entered length-entry noEntry [] es i l (v .each),
+  )
 
   entry-is : (i : ℕ) → i < length es → entryIn (entryAt (reportBytes y es) i) ≡ getD es i noEntry
   entry-is i l = let r = row-is i l in ap entryIn (r .1) ∙ entry-back (getD es i noEntry) (each-at Entered es noEntry (v .each) i l) (r .0)
@@ -281,9 +282,12 @@ module _ (y : ℕ) (es : List Entry) (v : Reportable y es) where
   pub report-right : wellFormed (reportBytes y es) ≡ true
   unfolding wellFormed
   report-right =
-      rw (header-right, count-back,
-      none-counted (wrongEntry (reportBytes y es)) (length es) 0 (λ i m l. entry-right i (omega arith)),
-      none-counted (wrongTotal (reportBytes y es)) figureCount 0 (λ k m l. total-right k (omega arith)))
+      rw (
+        header-right,
+        count-back,
+        none-counted (wrongEntry (reportBytes y es)) (length es) 0 (λ i m l. entry-right i (omega arith)),
+        none-counted (wrongTotal (reportBytes y es)) figureCount 0 (λ k m l. total-right k (omega arith)),
+      )
 
   rows-bytes : Bytes rows
   unfolding rows

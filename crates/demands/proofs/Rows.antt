@@ -116,7 +116,7 @@ module _ {A : Type 0} (write : A → List ℕ) (read : List ℕ → A) (w : ℕ)
       let q : s + w * (j + 1) ≡ s + w * j + w = omega arith in
       let f : drop (s + w * j) bs ≡ write x ++ (joined (map write xs) ++ rest) = e ∙ append-assoc (write x) (joined (map write xs)) rest in
       let g : drop (s + w * (j + 1)) bs ≡ joined (map write xs) ++ rest =
-            rw (q, ← drop-drop w (s + w * j) bs, f) (drop-at (write x) (joined (map write xs) ++ rest) w (len x (p .0))) in
+      rw (q, ← drop-drop w (s + w * j) bs, f) (drop-at (write x) (joined (map write xs) ++ rest) w (len x (p .0))) in
       rw (f, back x (joined (map write xs) ++ rest) (p .0), read-rows P len back s bs rest xs (j + 1) (p .1) g)
 
   pub write-rows : (s : ℕ) (bs : List ℕ) (n j : ℕ)

@@ -52,11 +52,11 @@ source-again whole alone s i result buffer h a l q d only o p =
     let m : i < length ss = rw (length-sources b) l in
     let k = entry-index ss s i m q in
     let one : Sources y (s ∷ []) = record {
-          year = r .0 .year;
-          sound = (subst Calculable q (each-at Calculable ss s (r .0 .sound) i m), tt);
-          once = (tt, tt);
-          few = omega arith;
-        } in
+      year = r .0 .year;
+      sound = (subst Calculable q (each-at Calculable ss s (r .0 .sound) i m), tt);
+      once = (tt, tt);
+      few = omega arith;
+    } in
     let c = part-calculated y alone d (subst (Sources y) (sym only) one) in
     let w : wrote (calculation alone) ≡ reportBytes y (entryOf s ∷ []) = c .1 ∙ ap (λ (ts : List Source). reportBytes y (entriesFor ts)) only in
     let g = again y (entriesFor ss) v (entryOf s) (k .0) (k .1) (k .2) result buffer (omega arith) (omega arith) in

@@ -117,7 +117,7 @@ module _ (r : List ℕ) (zeros : numberAt 3 r 5 ≡ 0) (right : figureIn r gasCo
       let m : 32 ≤ length (drop 8 r) = rw length-drop (omega arith) in
       let f : packed frontWidths (entryIn r .number ∷ entryIn r .method ∷ 0 ∷ []) ≡ take 8 r = rw (← front-again) (packed-unpacked frontWidths r h k) in
       let g : packed (replicate figureCount 8) (figures (entryIn r)) ≡ take 32 (drop 8 r) =
-            rw (← figures-again) (packed-unpacked (replicate figureCount 8) (drop 8 r) (bytes-drop 8 r h) m) in
+      rw (← figures-again) (packed-unpacked (replicate figureCount 8) (drop 8 r) (bytes-drop 8 r h) m) in
       rw (f, g) (sym (take-add 8 32 r))
 
 -- A well-formed report, and what it is written of.
@@ -177,9 +177,9 @@ module _ (b : List ℕ) (h : Bytes b) (f : Formed b) where
       let p : 20 ≤ length (drop 4 b) = rw length-drop (omega (arith, long)) in
       let q : 32 ≤ length (drop 24 b) = rw length-drop (omega (arith, long)) in
       let n : packed headerWidths (headerNumbers (reportYear b) (length (entriesOf b))) ≡ take 20 (drop 4 b) =
-            rw (← numbers-again) (packed-unpacked headerWidths (drop 4 b) (bytes-drop 4 b h) p) in
+      rw (← numbers-again) (packed-unpacked headerWidths (drop 4 b) (bytes-drop 4 b h) p) in
       let t : packed (replicate figureCount 8) (totals (entriesOf b)) ≡ take 32 (drop 24 b) =
-            rw (← totals-again) (packed-unpacked (replicate figureCount 8) (drop 24 b) (bytes-drop 24 b h) q) in
+      rw (← totals-again) (packed-unpacked (replicate figureCount 8) (drop 24 b) (bytes-drop 24 b h) q) in
       ap₂ _++_ (ap₂ _++_ (sym tag-again) n) t ∙ ap (λ (l : List ℕ). l ++ take 32 (drop 24 b)) (sym (take-add 4 20 b)) ∙ sym (take-add 24 32 b)
 
   row-again : (i : ℕ) → i < entryCount b → entryBytes (entryIn (entryAt b i)) ≡ take entryLength (entryAt b i)

@@ -1,4 +1,5 @@
 pub mod Valid
+pub mod Demand1
 pub mod Exactly
 pub mod Refusals
 pub mod Trees
