@@ -53,10 +53,10 @@ placed b i e =
     }
 
 module _ (b : List ℕ) (l : LaidRight b) where
-  standing : (i : ℕ) → i < sourceCount b → Placed b i
+  pub standing : (i : ℕ) → i < sourceCount b → Placed b i
   standing i m = placed b i (l .placed i m)
 
-  next-line : (i : ℕ) → i < sourceCount b → lineStart b (i + 1) ≡ lineStart b i + lineCountIn (sourceEntry b i)
+  pub next-line : (i : ℕ) → i < sourceCount b → lineStart b (i + 1) ≡ lineStart b i + lineCountIn (sourceEntry b i)
   unfolding lineStart
   next-line i m = rw (add-one i) (ap (λ (x : ℕ). x + lineCountIn (sourceEntry b i)) (standing i m .line))
 

@@ -39,16 +39,11 @@ numbers-at : (b : List ℕ) (p : ℕ) (ws ns : List ℕ) → StandAt b p (packed
     → numberAt (getD ws i 0) (drop p b) (sum (take i ws)) ≡ getD ns i 0
 numbers-at b p ws ns s f i l = rw (s .1) (numberAt-packed ws ns (s .0) f i l)
 
-rows-append : {A : Type 0} (write : A → List ℕ) (xs ys : List A) → joined (map write (xs ++ ys)) ≡ joined (map write xs) ++ joined (map write ys)
-unfolding joined
-rows-append write [] ys = refl
-rows-append write (x ∷ xs) ys = rw (rows-append write xs ys) (sym (append-assoc (write x) (joined (map write xs)) (joined (map write ys))))
-
 -- A line's bytes. They are twenty, and are read back off the front.
 abbrev pub lineWidths : List ℕ
 lineWidths = 1 ∷ 1 ∷ 2 ∷ 4 ∷ 4 ∷ 8 ∷ []
 
-abbrev lineNumbers : RawLine → List ℕ
+abbrev pub lineNumbers : RawLine → List ℕ
 lineNumbers l = l .kind ∷ l .unit ∷ l .code ∷ l .a ∷ l .b ∷ l .q ∷ []
 
 line-fits : (l : RawLine) → LineFits l → Fits lineWidths (lineNumbers l)
@@ -73,6 +68,17 @@ line-back l rest v =
 line-bytes : (l : RawLine) → Bytes (lineBytes l)
 unfolding lineBytes
 line-bytes l = packed-bytes lineWidths (lineNumbers l)
+
+abbrev pub rowsOf : List RawLine → List ℕ
+rowsOf ls = joined (map lineBytes ls)
+
+rows-append : (ks ls : List RawLine) → rowsOf (ks ++ ls) ≡ rowsOf ks ++ rowsOf ls
+unfolding joined
+rows-append [] ls = refl
+rows-append (k ∷ ks) ls = rw (rows-append ks ls) (sym (append-assoc (lineBytes k) (rowsOf ks) (rowsOf ls)))
+
+length-lines : (ls : List RawLine) → Each LineFits ls → length (rowsOf ls) ≡ lineLength * length ls
+length-lines = length-rows lineBytes lineOf lineLength LineFits length-line
 
 -- Entries. What their sources have of lines and of name bytes, and that it keeps to what a register has room for.
 abbrev pub linesOf : List Source → List RawLine
@@ -153,7 +159,7 @@ not-misplaced b i p =
 -- From entry j on, a register holds the entries, the lines and the names of these sources, which begin at this line and at this name byte.
 record Ahead (b : List ℕ) (j line byte : ℕ) (ss : List Source) : Type 0 where
   entries : StandAt b (sourcesAt + sourceLength * j) (sourceEntries line byte ss)
-  lines : StandAt b (linesAt (sourceCount b) + lineLength * line) (joined (map lineBytes (linesOf ss)))
+  lines : StandAt b (linesAt (sourceCount b) + lineLength * line) (rowsOf (linesOf ss))
   names : StandAt b (namesAt (sourceCount b) (lineCount b) + byte) (namesOf ss)
   atLine : lineStart b j ≡ line
   atName : nameStart b j ≡ byte
@@ -176,9 +182,9 @@ module _ (b : List ℕ) (j line byte : ℕ) (s : Source) (ss : List Source) (h :
   unfolding sourceEntries
   entries-here = h .entries
 
-  lines-here : StandAt b (linesAt (sourceCount b) + lineLength * line) (joined (map lineBytes (s .lines)) ++ joined (map lineBytes (linesOf ss)))
+  lines-here : StandAt b (linesAt (sourceCount b) + lineLength * line) (rowsOf (s .lines) ++ rowsOf (linesOf ss))
   unfolding joined
-  lines-here = let l = h .lines in (l .0, l .1 ∙ ap (λ (x : List ℕ). x ++ l .0) (rows-append lineBytes (s .lines) (linesOf ss)))
+  lines-here = let l = h .lines in (l .0, l .1 ∙ ap (λ (x : List ℕ). x ++ l .0) (rows-append (s .lines) (linesOf ss)))
 
   names-here : StandAt b (namesAt (sourceCount b) (lineCount b) + byte) (s .name ++ namesOf ss)
   unfolding joined
@@ -214,7 +220,7 @@ module _ (b : List ℕ) (j line byte : ℕ) (s : Source) (ss : List Source) (h :
   lines-back : map (lineAt b) (countUp (firstLineIn (sourceEntry b j)) (lineCountIn (sourceEntry b j))) ≡ s .lines
   lines-back =
       let p = linesAt (sourceCount b) in
-      let n = stand-first b (p + lineLength * line) (joined (map lineBytes (s .lines))) (joined (map lineBytes (linesOf ss))) lines-here in
+      let n = stand-first b (p + lineLength * line) (rowsOf (s .lines)) (rowsOf (linesOf ss)) lines-here in
       rw (line-in, count-in)
       (read-rows lineBytes lineOf lineLength LineFits length-line line-back p b (n .0) (s .lines) line (h .room .each .0 .lines) (n .1))
 
@@ -243,14 +249,12 @@ module _ (b : List ℕ) (j line byte : ℕ) (s : Source) (ss : List Source) (h :
   ahead-next =
       let v = h .room in
       let p : sourcesAt + sourceLength * j + length entry ≡ sourcesAt + sourceLength * (j + 1) = rw (length-entry line byte s ss v) (omega arith) in
-      let m : length (joined (map lineBytes (s .lines))) ≡ lineLength * length (s .lines) =
-      length-rows lineBytes lineOf lineLength LineFits length-line (s .lines) (v .each .0 .lines) in
-      let q : linesAt (sourceCount b) + lineLength * line + length (joined (map lineBytes (s .lines))) ≡ linesAt (sourceCount b) + lineLength * lineAfter =
-      rw m (omega arith) in
+      let m = length-lines (s .lines) (v .each .0 .lines) in
+      let q : linesAt (sourceCount b) + lineLength * line + length (rowsOf (s .lines)) ≡ linesAt (sourceCount b) + lineLength * lineAfter = omega (arith, m) in
       let t : namesAt (sourceCount b) (lineCount b) + byte + length (s .name) ≡ namesAt (sourceCount b) (lineCount b) + nameAfter = omega arith in
       record {
         entries = stand-next b _ _ entry (sourceEntries lineAfter nameAfter ss) p entries-here;
-        lines = stand-next b _ _ (joined (map lineBytes (s .lines))) (joined (map lineBytes (linesOf ss))) q lines-here;
+        lines = stand-next b _ _ (rowsOf (s .lines)) (rowsOf (linesOf ss)) q lines-here;
         names = stand-next b _ _ (s .name) (namesOf ss) t names-here;
         atLine = rw (add-one j) (ap₂ _+_ line-in count-in);
         atName = rw (add-one j) (ap₂ _+_ offset-in length-in);
@@ -312,7 +316,7 @@ module _ (year : ℕ) (ss : List Source) (v : Encodable year ss) where
   entries = sourceEntries 0 0 ss
 
   abbrev rows : List ℕ
-  rows = joined (map lineBytes (linesOf ss))
+  rows = rowsOf (linesOf ss)
 
   header-fits : Fits registerWidths (registerNumbers year n m t)
   header-fits = omega (arith, v .inRange, v .sources, v .lines, v .names)
@@ -328,7 +332,7 @@ module _ (year : ℕ) (ss : List Source) (v : Encodable year ss) where
   to-lines = rw (length-append, length-header, length-entries 0 0 ss room-whole)
 
   to-names : length (header ++ entries ++ rows) ≡ namesAt n m
-  to-names = rw (length-append, to-lines, length-rows lineBytes lineOf lineLength LineFits length-line (linesOf ss) (each-line ss (v .each)))
+  to-names = rw (length-append, to-lines, length-lines (linesOf ss) (each-line ss (v .each)))
 
   whole-at : StandAt bytes 0 (header ++ entries ++ rows ++ namesOf ss)
   unfolding encode
@@ -371,8 +375,7 @@ module _ (year : ℕ) (ss : List Source) (v : Encodable year ss) where
   ahead-whole =
       let p : 0 + length header ≡ sourcesAt = omega (arith, length-header) in
       let q : 0 + length (header ++ entries) ≡ linesAt (sourceCount bytes) + lineLength * 0 = rw sources-in (omega (arith, to-lines)) in
-      let r : 0 + length (header ++ entries ++ rows) ≡ namesAt (sourceCount bytes) (lineCount bytes) + 0 =
-      rw (sources-in, lines-in) (omega (arith, to-names)) in
+      let r : 0 + length (header ++ entries ++ rows) ≡ namesAt (sourceCount bytes) (lineCount bytes) + 0 = rw (sources-in, lines-in) (omega (arith, to-names)) in
       record {
         entries = stand-next bytes 0 _ header entries p entries-at;
         lines = stand-next bytes 0 _ (header ++ entries) rows q rows-at;

@@ -61,7 +61,7 @@ unpacked (w ∷ ws) bs = numberAt w bs 0 ∷ unpacked ws (drop w bs)
 pub bytes-drop : (n : ℕ) (bs : List ℕ) → Bytes bs → Bytes (drop n bs)
 bytes-drop n bs h i = rw (getD-drop n bs i 0) (h (n + i))
 
-bytes-take : (n : ℕ) (bs : List ℕ) → Bytes bs → Bytes (take n bs)
+pub bytes-take : (n : ℕ) (bs : List ℕ) → Bytes bs → Bytes (take n bs)
 bytes-take zero bs h i = omega arith
 bytes-take (suc n) [] h i = omega arith
 bytes-take (suc n) (b ∷ bs) h zero = h 0
