@@ -10,6 +10,8 @@ pub mod RegisterTests
 pub mod Registers
 pub mod Calculation
 pub mod Calculated
+pub mod Encoded
+pub mod Laid
 pub mod Trees
 pub mod Combined
 pub mod Dealing
