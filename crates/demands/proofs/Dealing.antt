@@ -25,7 +25,7 @@ use Rattle.demands.proofs.Trees.{Makes, makes-split, makes-perm, dealt}
 use Rattle.demands.proofs.Combined.{accepted-written, InYears, Sources, reporting}
 
 -- what is said of answers and of bytes is said in one way only
-each-prop : {A : Type 0} {P : A → Type 0} → ((x : A) → IsProp (P x)) → (xs : List A) → IsProp (Each P xs)
+pub each-prop : {A : Type 0} {P : A → Type 0} → ((x : A) → IsProp (P x)) → (xs : List A) → IsProp (Each P xs)
 each-prop h [] = Unit-prop
 each-prop h (x ∷ xs) = ×-prop (h x) (each-prop h xs)
 

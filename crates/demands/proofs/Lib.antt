@@ -15,5 +15,6 @@ pub mod Laid
 pub mod Trees
 pub mod Combined
 pub mod Dealing
+pub mod EveryDealing
 pub mod Removal
 pub mod SourceAgain
