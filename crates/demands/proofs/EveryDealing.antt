@@ -59,7 +59,7 @@ unfolding joined sum
 length-joined f [] = refl
 length-joined f (x ∷ xs) = length-append (f x) (joined (map f xs)) ∙ ap (λ (n : ℕ). length (f x) + n) (length-joined f xs)
 
-sum-perm : {A : Type 0} (w : A → ℕ) {xs ys : List A} → List·Permᴰ xs ys → sum (map w xs) ≡ sum (map w ys)
+pub sum-perm : {A : Type 0} (w : A → ℕ) {xs ys : List A} → List·Permᴰ xs ys → sum (map w xs) ≡ sum (map w ys)
 unfolding sum
 sum-perm w List·Permᴰ·nil = refl
 sum-perm w (List·Permᴰ·cons e d) = ap₂ _+_ (ap w e) (sum-perm w d)

@@ -18,3 +18,4 @@ pub mod Dealing
 pub mod EveryDealing
 pub mod Removal
 pub mod SourceAgain
+pub mod Masses

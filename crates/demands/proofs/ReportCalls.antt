@@ -30,7 +30,7 @@ use Rattle.demands.specs.Exactly.{Row, Nowhere, at, FirstOf, Exactly}
 use Rattle.demands.specs.Refusals.{NoReport, HasNumber, InBoth, roomRow, combinationRows, removalRows, checkRows, textLength, textRows}
 use Rattle.demands.proofs.Lists.{not-both, any-some, some-any, any-map, each-at, at-each}
 use Rattle.demands.proofs.Order.{each-map, each-append, ascending-each, ascending-distinct, ascending-lt, sorted-each, sorted-ascending, distinct-append}
-use Rattle.demands.proofs.Exactly.{Decides, DecideAll, each-passes, passes-nowhere, first-decides, exactly, exactly-written, answers, answers-verdict, Numbered, room-decides, decide-if, refuses-number, refuses-place, refuses-both}
+use Rattle.demands.proofs.Exactly.{Decides, DecideAll, each-passes, passes-nowhere, first-decides, exactly, exactly-written, zero-passes, answers, answers-verdict, Numbered, room-decides, decide-if, refuses-number, refuses-place, refuses-both}
 use Rattle.demands.proofs.Reports.{noEntry, report-right, length-report}
 use Rattle.demands.proofs.WellFormed.{formed, reportable, report-again, count-is, entry-at}
 
@@ -206,7 +206,7 @@ nowhere-at : {number place : ℕ} {C : Type 0} → Nowhere (at number place C) �
 nowhere-at {number} {place} h c = h number place (refl, refl, c)
 
 module _ (one other : List ℕ) (h : Bytes one) (g : Bytes other) where
-  both-reportable : formTest one 1 ≡ Passes → formTest other 2 ≡ Passes → sharedTest one other ≡ Passes → countTest one other ≡ Passes
+  pub both-reportable : formTest one 1 ≡ Passes → formTest other 2 ≡ Passes → sharedTest one other ≡ Passes → countTest one other ≡ Passes
       → Reportable (reportYear one) (bothEntries one other) × (length (bothEntries one other) ≡ entryCount one + entryCount other)
   unfolding bothEntries
   both-reportable p q s c =
@@ -281,6 +281,13 @@ module _ (one other : List ℕ) (h : Bytes one) (g : Bytes other) where
   combination-answers report =
       answers (formTest one 1 ∷ formTest other 2 ∷ yearTest one other ∷ sharedTest one other ∷ countTest one other ∷ []) (8 ∷ 9 ∷ 10 ∷ 11 ∷ 12 ∷ [])
       (combinationRows one other (length report)) (reportBytes (reportYear one) (bothEntries one other)) report (combination-decides report) (numbered-9-12 report)
+
+  pub combination-passed : (report : List ℕ) → combined one other report .answer .number ≡ 0
+      → firstRefusal (formTest one 1 ∷ formTest other 2 ∷ yearTest one other ∷ sharedTest one other ∷ countTest one other ∷ roomTest (reportBytes (reportYear one) (bothEntries one other)) report ∷ []) ≡ Passes
+  unfolding combined
+  combination-passed report e =
+      zero-passes (formTest one 1 ∷ formTest other 2 ∷ yearTest one other ∷ sharedTest one other ∷ countTest one other ∷ []) (8 ∷ 9 ∷ 10 ∷ 11 ∷ 12 ∷ [])
+      (combinationRows one other (length report)) (reportBytes (reportYear one) (bothEntries one other)) report (combination-decides report) (numbered-9-12 report) e
 
 -- Removal
 pub without-each : (P : Entry → Type 0) (x : ℕ) (es : List Entry) → Each P es → Each P (without (numbered x) es)
@@ -381,6 +388,11 @@ module _ (report : List ℕ) (number : ℕ) (h : Bytes report) where
   unfolding removed
   removal-answers result =
       answers (formTest report 1 ∷ absentTest report number ∷ []) (8 ∷ 9 ∷ 13 ∷ []) (removalRows report number (length result)) rest result (removal-decides result) (numbered-9-13 result)
+
+  pub removal-passed : (result : List ℕ) → removed report number result .answer .number ≡ 0 → firstRefusal (formTest report 1 ∷ absentTest report number ∷ roomTest rest result ∷ []) ≡ Passes
+  unfolding removed
+  removal-passed result e =
+      zero-passes (formTest report 1 ∷ absentTest report number ∷ []) (8 ∷ 9 ∷ 13 ∷ []) (removalRows report number (length result)) rest result (removal-decides result) (numbered-9-13 result) e
 
 first-decides-one : (v : Verdict) (row : Row) → Decides v row → Decides v (FirstOf (row ∷ []))
 first-decides-one v row d n p = (λ e. inl (d n p .0 e), λ r. ⊎-elim (λ q. d n p .1 q) (λ q. absurd (q .1)) r)

@@ -189,7 +189,7 @@ module _ (y : ℕ) (es : List Entry) (v : Reportable y es) where
   unfolding sum
   before-totals = rw (length-append reportTag, length-packed headerWidths (headerNumbers y (length es)) header-fits)
 
-  total-at : (k : ℕ) → k < figureCount → totalAt (reportBytes y es) k ≡ getD (totals es) k 0
+  pub total-at : (k : ℕ) → k < figureCount → totalAt (reportBytes y es) k ≡ getD (totals es) k 0
   unfolding reportBytes reportHeader rows
   total-at k l =
       ap (λ (b : List ℕ). numberAt 8 b (24 + 8 * k)) (append-assoc (reportTag ++ packed headerWidths (headerNumbers y (length es))) (packed (eights figureCount) (totals es)) rows)

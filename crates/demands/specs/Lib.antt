@@ -3,4 +3,5 @@ pub mod Demand1
 pub mod Exactly
 pub mod Refusals
 pub mod Trees
+pub mod Demand2
 pub mod Demand3
