@@ -36,7 +36,7 @@ use Rattle.demands.proofs.Rows.{numberAt-fits, bytes-drop}
 use Rattle.demands.proofs.Exactly.{passed-if, if-passed, each-passes, decide-append, DecideAll, Numbered, passed-append, passes-each, exactly-written, zero-passes, answers, room-decides}
 use Rattle.demands.proofs.Reports.{length-report}
 use Rattle.demands.proofs.RegisterTests.{or-either, noSource, sourceNumber, length-sources, source-at, register-decides}
-use Rattle.demands.proofs.Registers.{Passed, passed, passing}
+use Rattle.demands.proofs.Registers.{sound-parts, Passed, passed, passing}
 use Rattle.demands.proofs.Calculation.{no-fault, line-decides, mass-decides}
 
 -- a source that nothing refuses, with a number of four bytes
@@ -64,17 +64,6 @@ method-listed m p e =
         (λ h. ⊎-elim (λ h. ⊎-elim (is 1 (omega arith) (omega arith)) (is 2 (omega arith) (omega arith)) (or-either (eqb m 1) (eqb m 2) h)) (is 3 (omega arith) (omega arith)) (or-either (eqb m 1 || eqb m 2) (eqb m 3) h))
         (is 5 (omega arith) (omega arith)) (or-either (eqb m 1 || eqb m 2 || eqb m 3) (eqb m 5) h)
 
--- what is sound has a number and a method of the table
-sound-parts : (s : Source) → unsound s ≡ false → (0 < s .number) × (listed (s .method) (s .parameter) ≡ true)
-unfolding unsound
-sound-parts s e =
-    let c1 = or-false _ _ e in
-    let c2 = or-false _ _ (c1 .0) in
-    let c3 = or-false _ _ (c2 .0) in
-    let c4 = or-false _ _ (c3 .0) in
-    let z : s .number ≡ 0 → ⊥ = eqb-false (s .number) 0 (c4 .0) in
-    (omega arith, not-false _ (c4 .1))
-
 kept-within : (s : Source) → massFault s ≡ 0 → equivalent (masses (decodedLines s)) ≤ limit
 unfolding massFault
 kept-within s e = by (belowZero (decodedLines s)) (ltb limit (equivalent (masses (decodedLines s)))) refl e
@@ -89,7 +78,7 @@ unfolding entryOf masses
 entered s c =
     record {
       number = c .number;
-      method = method-listed (s .method) (s .parameter) (sound-parts s (c .sound) .1);
+      method = method-listed (s .method) (s .parameter) (sound-parts s (c .sound) .pair);
       gases = length-map gases (mass (decodedLines s)) ∙ length-countUp 0 gasCount;
       within = kept-within s (c .kept);
     }
@@ -101,7 +90,7 @@ each-entered (s ∷ ss) h = (entered s (h .0), each-entered ss (h .1))
 each-numbered : (ss : List Source) → Each Calculable ss → Each (λ e. 0 < entryNumber e) (map entryOf ss)
 unfolding entryOf
 each-numbered [] h = tt
-each-numbered (s ∷ ss) h = (sound-parts s (h .0 .sound) .0, each-numbered ss (h .1))
+each-numbered (s ∷ ss) h = (sound-parts s (h .0 .sound) .number, each-numbered ss (h .1))
 
 each-of : (P : ℕ → Type 0) (ss : List Source) → Each (λ s. P (sourceNumber s)) ss → Each (λ e. P (entryNumber e)) (map entryOf ss)
 unfolding entryOf

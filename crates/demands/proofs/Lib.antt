@@ -19,3 +19,5 @@ pub mod EveryDealing
 pub mod Removal
 pub mod SourceAgain
 pub mod Masses
+pub mod Names
+pub mod Algebra

@@ -8,13 +8,14 @@ use native.Mathlib.Nat.{not-suc-le-zero, le-of-suc-le-suc}
 use native.Mathlib.Omega.{arith}
 use lib.Dec.{eqb, ltb, leb}
 use lib.ListN.{length, getD, take, length-map, List·getD-map}
-use borrow.Author.Tests.{ltb-false, leb-true, eqb-true, le-ltb, le-leb, eq-eqb, not-true, not-false}
+use borrow.Author.Tests.{ltb-false, leb-true, eqb-true, eqb-false, le-ltb, le-leb, eq-eqb, not-true, not-false}
 use Rattle.basis.specs.declared.Verdict.{Verdict}
 use Rattle.basis.specs.declared.Verdict.the-variants.{Passes}
 use Rattle.basis.specs.Bytes.{numberAt, ascii, startsWith}
 use Rattle.basis.specs.Answers.{refuseIf, refuseAtFirst, firstRefusal}
 use Rattle.basis.proofs.First.{clash}
 use Rattle.basis.proofs.Answers.{passed-at-all}
+use Rattle.meaning.specs.Methods.{listed}
 use Rattle.meaning.specs.Register.{Source, registerTag, registerLayout, yearOf, isYear, sourceCount, mostSources, lineCount, mostLines, nameBytes, mostNameBytes, sourcesAt, linesAt, namesAt, wholeLength, lengthTest, headerTests, sourceAt, sourcesOf, lineStart, nameStart, misplaced, unsound, wrongSource, sourceTest, restTest, repeats, repeatTest, registerTests}
 use Rattle.demands.specs.Valid.{Each, Distinct, LaidRight}
 use Rattle.demands.proofs.Lists.{and-true, true-and, or-false, false-or, not-both, each-at, at-each}
@@ -54,6 +55,24 @@ repeated-not ss d =
     passed-at-all 4 (repeats ns) (length ns) .1
     (λ i l. not-both (repeats ns i) (λ t. let r = repeats-some ns i l t in
     distinct-lt sourceNumber noSource ss d i (r .0) (r .1) (omega arith) (sym (List·getD-map sourceNumber ss (r .0) noSource) ∙ r .2 ∙ List·getD-map sourceNumber ss i noSource)))
+
+-- what is asked of a source itself, where nothing is wrong with it
+pub record Sound (s : Source) : Type 0 where
+  pub number : 0 < s .number
+  pub pair : listed (s .method) (s .parameter) ≡ true
+  pub name : (1 ≤ length (s .name)) × (length (s .name) ≤ 64)
+
+pub sound-parts : (s : Source) → unsound s ≡ false → Sound s
+unfolding unsound
+sound-parts s e =
+    let c1 = or-false _ _ e in
+    let c2 = or-false _ _ (c1 .0) in
+    let c3 = or-false _ _ (c2 .0) in
+    let c4 = or-false _ _ (c3 .0) in
+    let z : s .number ≡ 0 → ⊥ = eqb-false (s .number) 0 (c4 .0) in
+    let n : 0 < s .number = omega arith in
+    let w = and-true _ _ (not-false _ (c2 .1)) in
+    record { number = n; pair = not-false _ (c4 .1); name = (leb-true 1 (length (s .name)) (w .0), leb-true (length (s .name)) 64 (w .1)) }
 
 -- what passing 1 to 4 says
 pub record Passed (b : List ℕ) : Type 0 where

@@ -5,3 +5,4 @@ pub mod Refusals
 pub mod Trees
 pub mod Demand2
 pub mod Demand3
+pub mod Algebra
