@@ -13,7 +13,7 @@ use Rattle.basis.specs.declared.Answer.{Answer}
 use Rattle.basis.specs.declared.Verdict.{Verdict}
 use Rattle.basis.specs.declared.Verdict.the-variants.{Passes, Refuses}
 use Rattle.basis.specs.First.{first, NoneBelow}
-use Rattle.basis.specs.Answers.{refuseIf, refuseAtFirst, firstRefusal, Outcome, Gives, settled}
+use Rattle.basis.specs.Answers.{refuseIf, refuseAtFirst, firstRefusal, Outcome, Gives, Shows, settled}
 use Rattle.basis.proofs.First.{first-≤, first-hits, first-misses, first-is, first-end}
 
 -- test i of a call refuses with this number and place, and each test before it passes
@@ -113,3 +113,8 @@ passed-at-all number wrong count = (λ e. by (ltb (first wrong count) count) ref
 -- two outcomes that a promise permits are one
 pub coincide : {o : Outcome} {a a′ : Answer} {bs bs′ : List ℕ} → Gives o a bs → Gives o a′ bs′ → (a ≡ a′) × (bs ≡ bs′)
 coincide g g′ = (g .answers ∙ sym (g′ .answers), g .leaves ∙ sym (g′ .leaves))
+
+-- and two parts
+pub coincide-part : {A : Type 0} {bytes : List ℕ} {base : A} {start offset size : ℕ} {held held′ : List ℕ} {place place′ : A × ℕ}
+    → Shows bytes base start offset size held place → Shows bytes base start offset size held′ place′ → (held ≡ held′) × (place ≡ place′)
+coincide-part s s′ = (s .holds ∙ sym (s′ .holds), s .stands ∙ sym (s′ .stands))

@@ -2,8 +2,8 @@
 use mathlib.Core.Bool.{Bool, true, false, cond}
 use mathlib.Core.List.{List, [], _∷_}
 use mathlib.Core.Path.{_≡_}
-use Prim.Native.Nat.{ℕ, zero, suc}
-use lib.ListN.{length}
+use Prim.Native.Nat.{ℕ, _+_}
+use lib.ListN.{length, take, drop}
 use lib.Dec.{ltb}
 use Rattle.basis.specs.declared.Answer.{Answer}
 use Rattle.basis.specs.declared.Verdict.{Verdict}
@@ -48,3 +48,8 @@ settled (Refuses number place) made buffer = record { answer = answer (Refuses n
 pub record Gives (promised : Outcome) (given : Answer) (bytes : List ℕ) : Type 0 where
   pub answers : given ≡ promised .answer
   pub leaves : bytes ≡ promised .left
+
+-- a promise of a part of lent bytes, whose place is counted from a base: what it holds, and where it stands
+pub record Shows {A : Type 0} (bytes : List ℕ) (base : A) (start offset size : ℕ) (held : List ℕ) (place : A × ℕ) : Type 0 where
+  pub holds : held ≡ take size (drop offset bytes)
+  pub stands : place ≡ (base, offset + start)

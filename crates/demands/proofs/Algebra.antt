@@ -42,9 +42,10 @@ agree-first [] [] a n p = (λ r. r, λ r. r)
 agree-first [] (row ∷ rows) a n p = absurd a
 agree-first (row ∷ rows) [] a n p = absurd a
 agree-first (row ∷ rows) (row′ ∷ rows′) a n p =
-    let later = agree-first rows rows′ (a .1) n p in
-    (⊎-elim (λ r. inl (a .0 n p .0 r)) (λ r. inr ((λ m q h. r .0 m q (a .0 m q .1 h)), later .0 (r .1))),
-    ⊎-elim (λ r. inl (a .0 n p .1 r)) (λ r. inr ((λ m q h. r .0 m q (a .0 m q .0 h)), later .1 (r .1))))
+    let later = agree-first rows rows′ (a .1) n p in (
+      ⊎-elim (λ r. inl (a .0 n p .0 r)) (λ r. inr ((λ m q h. r .0 m q (a .0 m q .1 h)), later .0 (r .1))),
+      ⊎-elim (λ r. inl (a .0 n p .1 r)) (λ r. inr ((λ m q h. r .0 m q (a .0 m q .0 h)), later .1 (r .1))),
+    )
 
 same-verdict : (v w : Verdict) (rows rows′ : List Row) → Decides v (FirstOf rows) → Decides w (FirstOf rows′) → Agree rows rows′ → v ≡ w
 same-verdict Passes Passes rows rows′ d e a = refl
@@ -56,13 +57,22 @@ no-such b g f = let r = good-made b g in f (reportYear b) (entriesOf b) (r .0) (
 
 module _ (one other : List ℕ) (g : GoodReport one) (h : GoodReport other) (buffer : List ℕ) where
   agree : Agree (combinationRows one other (length buffer)) (combinationRows other one (length buffer))
-  agree =
-      (λ n p. (λ r. absurd (no-such one g (r .2)), λ r. absurd (no-such other h (r .2))),
-      (λ n p. (λ r. absurd (no-such other h (r .2)), λ r. absurd (no-such one g (r .2))),
-      (λ n p. (λ r. (r .0, r .1, λ e. r .2 (sym e)), λ r. (r .0, r .1, λ e. r .2 (sym e))),
-      (λ n p. (λ r. (r .0, (r .1 .1, r .1 .0), λ x l q. r .2 x l (q .1, q .0)), λ r. (r .0, (r .1 .1, r .1 .0), λ x l q. r .2 x l (q .1, q .0))),
-      (λ n p. rw (add-comm (entryCount one) (entryCount other)) (λ r. r, λ r. r),
-      (λ n p. rw (add-comm (entryCount one) (entryCount other)) (λ r. r, λ r. r), tt))))))
+  agree = (
+    λ n p. (λ r. absurd (no-such one g (r .2)), λ r. absurd (no-such other h (r .2))),
+    (
+      λ n p. (λ r. absurd (no-such other h (r .2)), λ r. absurd (no-such one g (r .2))),
+      (
+        λ n p. (λ r. (r .0, r .1, λ e. r .2 (sym e)), λ r. (r .0, r .1, λ e. r .2 (sym e))),
+        (
+          λ n p. (λ r. (r .0, (r .1 .1, r .1 .0), λ x l q. r .2 x l (q .1, q .0)), λ r. (r .0, (r .1 .1, r .1 .0), λ x l q. r .2 x l (q .1, q .0))),
+          (
+            λ n p. rw (add-comm (entryCount one) (entryCount other)) (λ r. r, λ r. r),
+            (λ n p. rw (add-comm (entryCount one) (entryCount other)) (λ r. r, λ r. r), tt),
+          ),
+        ),
+      ),
+    ),
+  )
 
 -- two lists in order that are dealt of one another are one
 in-order-once : {y z : ℕ} (xs zs : List Entry) → Reportable y xs → Reportable z zs → List·Permᴰ xs zs → xs ≡ zs
@@ -100,6 +110,7 @@ commutes one other buffer g h = by (firstRefusal (combining one other buffer)) r
         (first-decides (combining one other buffer) (combinationRows one other (length buffer)) (combination-decides one other (g .bytes) (h .bytes) buffer))
         (first-decides (combining other one buffer) (combinationRows other one (length buffer)) (combination-decides other one (h .bytes) (g .bytes) buffer))
         (agree one other g h buffer)
+
     by : (v : Verdict) → firstRefusal (combining one other buffer) ≡ v → (w : Verdict) → firstRefusal (combining other one buffer) ≡ w → firstRefusal (combining one other buffer) ≡ firstRefusal (combining other one buffer)
         → settled (firstRefusal (combining one other buffer)) (reportBytes (reportYear one) (bothEntries one other)) buffer ≡ settled (firstRefusal (combining other one buffer)) (reportBytes (reportYear other) (bothEntries other one)) buffer
     by Passes p w q e =
@@ -139,13 +150,13 @@ algebra =
           let hl = wrote-bytes a b p ha hb ab in
           let hm = wrote-bytes b c r hb hc bc in
           let left : List·Permᴰ (bothEntries l c) (entriesOf a ++ (entriesOf b ++ entriesOf c)) =
-                List·Permᴰ·trans (both-dealt l c)
-                (subst (λ (es : List Entry). List·Permᴰ (es ++ entriesOf c) (entriesOf a ++ (entriesOf b ++ entriesOf c))) (sym (wrote-entries a b p ha hb ab))
-                (subst (List·Permᴰ (bothEntries a b ++ entriesOf c)) (append-assoc (entriesOf a) (entriesOf b) (entriesOf c)) (Permᴰ·append-right (entriesOf c) (both-dealt a b)))) in
+          List·Permᴰ·trans (both-dealt l c)
+          (subst (λ (es : List Entry). List·Permᴰ (es ++ entriesOf c) (entriesOf a ++ (entriesOf b ++ entriesOf c))) (sym (wrote-entries a b p ha hb ab))
+          (subst (List·Permᴰ (bothEntries a b ++ entriesOf c)) (append-assoc (entriesOf a) (entriesOf b) (entriesOf c)) (Permᴰ·append-right (entriesOf c) (both-dealt a b)))) in
           let right : List·Permᴰ (bothEntries a m) (entriesOf a ++ (entriesOf b ++ entriesOf c)) =
-                List·Permᴰ·trans (both-dealt a m)
-                (subst (λ (es : List Entry). List·Permᴰ (entriesOf a ++ es) (entriesOf a ++ (entriesOf b ++ entriesOf c))) (sym (wrote-entries b c r hb hc bc))
-                (Permᴰ·append-left (entriesOf a) (both-dealt b c))) in
+          List·Permᴰ·trans (both-dealt a m)
+          (subst (λ (es : List Entry). List·Permᴰ (entriesOf a ++ es) (entriesOf a ++ (entriesOf b ++ entriesOf c))) (sym (wrote-entries b c r hb hc bc))
+          (Permᴰ·append-left (entriesOf a) (both-dealt b c))) in
           wrote-is l c q hl hc abc
           ∙ ap₂ reportBytes (wrote-year a b p ha hb ab)
           (in-order-once (bothEntries l c) (bothEntries a m) (goes l c q hl hc abc .makes) (goes a m s ha hm a-bc .makes) (List·Permᴰ·trans left (Permᴰ·symm right)))

@@ -85,10 +85,11 @@ each-bounded year all (ss ∷ deals) b =
     let n = length-append ss (joined deals) in
     let l = sum-both (λ s. length (s .lines)) ss (joined deals) in
     let m = sum-both (λ s. length (s .name)) ss (joined deals) in
-    let f = each-split SourceFits ss (joined deals) (b .fits) in
-    (record { sources = omega (arith, b .sources); lines = omega (arith, b .lines); names = omega (arith, b .names); fits = f .0 },
-    each-bounded year all deals
-    (record { sources = omega (arith, b .sources); lines = omega (arith, b .lines); names = omega (arith, b .names); fits = f .1 }))
+    let f = each-split SourceFits ss (joined deals) (b .fits) in (
+      record { sources = omega (arith, b .sources); lines = omega (arith, b .lines); names = omega (arith, b .names); fits = f .0 },
+      each-bounded year all deals
+          (record { sources = omega (arith, b .sources); lines = omega (arith, b .lines); names = omega (arith, b .names); fits = f .1 }),
+    )
 
 bounded-encodable : (year : ℕ) (all : List Source) → Encodable year all → (ss : List Source) → Bounded year all ss → Encodable year ss
 bounded-encodable year all e ss b =
@@ -106,13 +107,13 @@ every-dealing whole deals h a perm =
     let y = yearOf b in
     let e = laid-encodable b h (accepted b h (whole .buffer) a .0 .laid) in
     let d : Each (Encodable y) deals =
-          ∥∥₁-elim perm (each-prop (encodable-prop y) deals)
-          (λ q. each-map (bounded-encodable y (sourcesOf b) e) deals
-          (each-bounded y (sourcesOf b) deals
-          (record {
-            sources = omega (arith, length-perm q);
-            lines = omega (arith, sum-perm (λ s. length (s .lines)) q);
-            names = omega (arith, sum-perm (λ s. length (s .name)) q);
-            fits = each-perm SourceFits (Permᴰ·symm q) (e .each);
-          }))) in
+    ∥∥₁-elim perm (each-prop (encodable-prop y) deals)
+    (λ q. each-map (bounded-encodable y (sourcesOf b) e) deals
+    (each-bounded y (sourcesOf b) deals
+    (record {
+      sources = omega (arith, length-perm q);
+      lines = omega (arith, sum-perm (λ s. length (s .lines)) q);
+      names = omega (arith, sum-perm (λ s. length (s .name)) q);
+      fits = each-perm SourceFits (Permᴰ·symm q) (e .each);
+    }))) in
     each-map (λ ss f. (encode-bytes y ss f, encode-laid y ss f, encode-year y ss f, encode-sources y ss f)) deals d

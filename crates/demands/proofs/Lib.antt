@@ -21,3 +21,5 @@ pub mod SourceAgain
 pub mod Masses
 pub mod Names
 pub mod Algebra
+pub mod Shown
+pub mod Kept

@@ -15,7 +15,7 @@ use Rattle.basis.specs.Lists.{sum, countUp, without}
 use Rattle.basis.specs.declared.Verdict.{Verdict}
 use Rattle.basis.specs.declared.Verdict.the-variants.{Passes}
 use Rattle.basis.specs.Answers.{firstRefusal, Outcome, settled}
-use Rattle.basis.proofs.Answers.{coincide}
+use Rattle.basis.proofs.Answers.{coincide, coincide-part}
 use Rattle.basis.proofs.Lists.{sortedBy-perm}
 use Rattle.meaning.specs.Masses.{gasCount, gases, divisors, carbonDioxide, added, taken, belowZero, rounded, mass, masses, equivalent, limit}
 use Rattle.meaning.specs.Register.{Source, yearOf, sourceCount, sourceAt, sourcesOf, decodedLines}
@@ -36,12 +36,13 @@ use Rattle.demands.proofs.EveryDealing.{sum-perm}
 
 rounds : (n d r : ℕ) → 0 < d → (rounded n d ≡ r) ↔ Nearest n d r
 unfolding rounded
-rounds n d r h =
-    (λ e.
-        let low : r * (2 * d) ≤ 2 * n + d = le-div-iff-mul-le {k = 2 * d} (omega arith) .0 (omega arith) in
-        let high : 2 * n + d < (r + 1) * (2 * d) = div-lt-iff-lt-mul {k = 2 * d} (omega arith) .0 (omega arith) in
-        (omega arith, omega arith),
-    λ w. div-eq-of-lt-le (2 * d) (omega arith) (omega arith))
+rounds n d r h = (
+  λ e.
+      let low : r * (2 * d) ≤ 2 * n + d = le-div-iff-mul-le {k = 2 * d} (omega arith) .0 (omega arith) in
+      let high : 2 * n + d < (r + 1) * (2 * d) = div-lt-iff-lt-mul {k = 2 * d} (omega arith) .0 (omega arith) in
+      (omega arith, omega arith),
+  λ w. div-eq-of-lt-le (2 * d) (omega arith) (omega arith),
+)
 
 positive : (g : ℕ) → 0 < getD divisors g 1
 positive zero = omega arith
@@ -118,11 +119,15 @@ fixed =
       combination = λ one other report h g a.
           let e = combination-passed one other h g report a in
           let p = each-passes _ e in
-          let r = both-reportable one other h g (p .0) (p .1 .0) (p .1 .1 .1 .0) (p .1 .1 .1 .1 .0) in
-          (bothEntries one other, entries-of-both one other, r .0 .order,
-          left-written (formTest one 1 ∷ formTest other 2 ∷ yearTest one other ∷ sharedTest one other ∷ countTest one other ∷ []) (reportBytes (reportYear one) (bothEntries one other)) report e);
+          let r = both-reportable one other h g (p .0) (p .1 .0) (p .1 .1 .1 .0) (p .1 .1 .1 .1 .0) in (
+            bothEntries one other,
+            entries-of-both one other,
+            r .0 .order,
+            left-written (formTest one 1 ∷ formTest other 2 ∷ yearTest one other ∷ sharedTest one other ∷ countTest one other ∷ []) (reportBytes (reportYear one) (bothEntries one other)) report e,
+          );
       removal = λ report result number h a.
           left-written (formTest report 1 ∷ absentTest report number ∷ []) (reportBytes (reportYear report) (without (numbered number) (entriesOf report))) result
           (removal-passed report number h result a);
       coincide = λ o a a′ bs bs′ g g′. coincide g g′;
+      coincideParts = λ A bytes base start offset size held held′ place place′ s s′. coincide-part s s′;
     }

@@ -10,7 +10,7 @@ use lib.ListN.{length, getD, take, drop}
 use Rattle.basis.specs.declared.Answer.{Answer}
 use Rattle.basis.specs.Bytes.{Bytes, splice}
 use Rattle.basis.specs.Lists.{sum, without}
-use Rattle.basis.specs.Answers.{Outcome, Gives}
+use Rattle.basis.specs.Answers.{Outcome, Gives, Shows}
 use Rattle.meaning.specs.declared.Part.{Part}
 use Rattle.meaning.specs.declared.Found.{Found}
 use Rattle.meaning.specs.Masses.{gasCount, divisors, carbonDioxide, added, taken, rounded}
@@ -64,13 +64,15 @@ pub record Masses : Type 0 where
   pub twins : (s t : Source) → s .method ≡ t .method → s .parameter ≡ t .parameter → s .lines ≡ t .lines → entryOf s .masses ≡ entryOf t .masses
 
 -- Report, combination and removal are fixed to the byte: what they leave where they accept, and that a promise permits one outcome only.
-pub record Fixed : Type 0 where
+pub record Fixed : Type 1 where
   pub combination : (one other report : List ℕ) → Bytes one → Bytes other → Accepted (combined one other report)
       → (es : List Entry) × Perm es (entriesOf one ++ entriesOf other) × Ascending entryNumber 0 es
       × (combined one other report .left ≡ splice report 0 (reportBytes (reportYear one) es))
   pub removal : (report result : List ℕ) (number : ℕ) → Bytes report → Accepted (removed report number result)
       → removed report number result .left ≡ splice result 0 (reportBytes (reportYear report) (without (numbered number) (entriesOf report)))
   pub coincide : (o : Outcome) (a a′ : Answer) (bs bs′ : List ℕ) → Gives o a bs → Gives o a′ bs′ → (a ≡ a′) × (bs ≡ bs′)
+  pub coincideParts : (A : Type 0) (bytes : List ℕ) (base : A) (start offset size : ℕ) (held held′ : List ℕ) (place place′ : A × ℕ)
+      → Shows bytes base start offset size held place → Shows bytes base start offset size held′ place′ → (held ≡ held′) × (place ≡ place′)
 
 -- A register that is laid right is the encoding of its year and sources, and what a register has room for is encoded and read back; a report
 -- is well-formed exactly if it is written of a year and entries that make a report.

@@ -1,0 +1,73 @@
+-- The premises of the statements, all met: two boilers of equal name and lines, and an acid plant. Assumes nothing.
+use mathlib.Core.Bool.{true}
+use mathlib.Core.List.{List, [], _∷_, map, Perm}
+use mathlib.Core.Path.{_≡_}
+use Prim.Native.Nat.{ℕ, _≤_}
+use lib.ListN.{length, getD, replicate}
+use Rattle.basis.specs.declared.Answer.{Answer}
+use Rattle.basis.specs.Bytes.{Bytes, ascii}
+use Rattle.basis.specs.Lists.{joined}
+use Rattle.basis.specs.Answers.{Outcome}
+use Rattle.meaning.specs.Register.{Source, sourcesOf, encode}
+use Rattle.meaning.specs.Report.{Entry, entryCount, reportLength, entriesOf, totalAt, wellFormed}
+use Rattle.meaning.specs.Calls.{combined, removed}
+use Rattle.meaning.specs.Starred.{line}
+use Rattle.meaning.specs.Examples.{boiler}
+use Rattle.demands.specs.Valid.{Each}
+use Rattle.demands.specs.Trees.{Tree, report, combine, leaves, wrote, Accepted, result, Room}
+use Rattle.demands.specs.Demand2.{Numbered, Nearest}
+use Rattle.demands.specs.Demand3.{Lent, Dealt, calculation, GoodReport}
+use Rattle.demands.specs.Algebra.{refusal}
+
+abbrev pub acid : Source
+acid = record { number = 9; method = 6; parameter = 5; name = ascii "Acid"; lines = line 30 1 0 1000000 0 0 ∷ line 30 1 0 500 0 0 ∷ [] }
+
+abbrev pub zeros : List ℕ
+zeros = replicate 180 0
+
+abbrev pub lent : List Source → Lent
+lent ss = record { register = encode 2023 ss; buffer = zeros }
+
+-- a register of three sources, dealt out among three registers, one of them empty
+abbrev pub whole : Lent
+whole = lent (boiler 8 ∷ boiler 7 ∷ acid ∷ [])
+
+abbrev pub parts : List Lent
+parts = lent (acid ∷ boiler 8 ∷ []) ∷ lent [] ∷ lent (boiler 7 ∷ []) ∷ []
+
+abbrev pub written : List Source → List ℕ
+written ss = wrote (calculation (lent ss))
+
+-- their reports in another order, and in one of the groupings
+abbrev pub tree : Tree
+tree = combine (combine (report (written [])) (report (written (boiler 7 ∷ []))) zeros) (report (written (acid ∷ boiler 8 ∷ []))) zeros
+
+abbrev pub again : List ℕ → List ℕ
+again r = wrote (combined (wrote (removed r 7 zeros)) (written (boiler 7 ∷ [])) zeros)
+
+pub record Shown : Type 0 where
+  -- the premises of the third demand, and its conclusion as it computes
+  pub bytes : Each (λ p. Bytes (p .register)) (whole ∷ parts)
+  pub accepted : Accepted (calculation whole)
+  pub dealt : Each (Dealt 2023) parts
+  pub sources : Perm (joined (map (λ p. sourcesOf (p .register)) parts)) (sourcesOf (whole .register))
+  pub reports : Perm (leaves tree) (map (λ p. wrote (calculation p)) parts)
+  pub room : Room entryCount reportLength tree
+  pub combines : result combined tree ≡ wrote (calculation whole)
+  -- its report is well-formed, has three entries, and both boilers count in its first total
+  pub formed : GoodReport (wrote (calculation whole))
+  pub entries : entryCount (wrote (calculation whole)) ≡ 3
+  pub twice : totalAt (wrote (calculation whole)) 0 ≡ 5862400000
+  -- a source is there, is removed, and is combined again
+  pub there : Numbered (whole .register) 7 1
+  pub comesBack : again (wrote (calculation whole)) ≡ wrote (calculation whole)
+  -- both groupings of three reports are accepted
+  pub left : Accepted (combined (wrote (combined (written (boiler 8 ∷ [])) (written (boiler 7 ∷ [])) zeros)) (written (acid ∷ [])) zeros)
+  pub right : Accepted (combined (written (boiler 8 ∷ [])) (wrote (combined (written (boiler 7 ∷ [])) (written (acid ∷ [])) zeros)) zeros)
+  -- half a gram goes upward, and is nearest to that only
+  pub half : Nearest 5 10 1
+  -- order tells where one of the two is no report; grouping tells where numbers are shared
+  pub firstOrder : combined [] (written []) zeros .answer ≡ refusal 9 1
+  pub otherOrder : combined (written []) [] zeros .answer ≡ refusal 9 2
+  pub firstGrouping : combined (wrote (combined (written (boiler 7 ∷ [])) (written (boiler 8 ∷ [])) zeros)) (written (boiler 7 ∷ boiler 8 ∷ [])) zeros .answer ≡ refusal 11 7
+  pub otherGrouping : combined (written (boiler 8 ∷ [])) (written (boiler 7 ∷ boiler 8 ∷ [])) zeros .answer ≡ refusal 11 8
