@@ -1,9 +1,9 @@
 -- A call refuses exactly by the first of its tests that refuses; what a promise permits is one. Assumes nothing.
-use mathlib.Core.Bool.{Bool, true, false, cond}
+use mathlib.Core.Bool.{Bool, true, false}
 use mathlib.Core.List.{List, [], _∷_, _++_}
 use mathlib.Core.Logic.{_↔_}
-use mathlib.Core.Path.{_≡_, refl, sym, ap, _∙_}
-use Prim.Native.Nat.{ℕ, zero, suc, _≤_, _<_, zero-le, suc-le-suc}
+use mathlib.Core.Path.{_≡_, refl, sym, _∙_}
+use Prim.Native.Nat.{ℕ, zero, suc, _<_, zero-le, suc-le-suc}
 use native.Mathlib.Nat.{le-of-suc-le-suc, not-suc-le-zero}
 use native.Mathlib.Omega.{arith}
 use lib.Dec.{ltb}
@@ -13,7 +13,7 @@ use Rattle.basis.specs.declared.Answer.{Answer}
 use Rattle.basis.specs.declared.Verdict.{Verdict}
 use Rattle.basis.specs.declared.Verdict.the-variants.{Passes, Refuses}
 use Rattle.basis.specs.First.{first, NoneBelow}
-use Rattle.basis.specs.Answers.{refuseIf, refuseAtFirst, firstRefusal, Outcome, Gives, Shows, settled}
+use Rattle.basis.specs.Answers.{refuseIf, refuseAtFirst, firstRefusal, Outcome, Gives, Shows}
 use Rattle.basis.proofs.First.{first-≤, first-hits, first-misses, first-is, first-end}
 
 -- test i of a call refuses with this number and place, and each test before it passes

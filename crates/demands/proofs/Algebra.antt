@@ -1,9 +1,9 @@
 -- Combination commutes, and associates where both groupings are accepted. Assumes nothing.
 use mathlib.Core.Bool.{not}
 use mathlib.Core.List.{List, [], _∷_, _++_, append-assoc, List·Permᴰ, List·Permᴰ·trans, List·Permᴰ·append-comm, Permᴰ·append-left, Permᴰ·append-right, Permᴰ·symm}
-use mathlib.Core.Logic.{_⊎_, inl, inr, ⊎-elim, _↔_, _≢_}
+use mathlib.Core.Logic.{inl, inr, ⊎-elim}
 use mathlib.Core.Path.{_≡_, refl, sym, ap, ap₂, subst, _∙_}
-use Prim.Native.Nat.{ℕ, _+_, _<_}
+use Prim.Native.Nat.{ℕ}
 use native.Mathlib.Nat.{add-comm}
 use lib.Dec.{eqb}
 use lib.ListN.{length}
@@ -11,15 +11,14 @@ use borrow.Author.Tests.{eqb-true, not-false}
 use Rattle.basis.specs.declared.Verdict.{Verdict}
 use Rattle.basis.specs.declared.Verdict.the-variants.{Passes, Refuses}
 use Rattle.basis.specs.Bytes.{Bytes}
-use Rattle.basis.specs.Lists.{sortedBy}
-use Rattle.basis.specs.Answers.{firstRefusal, Outcome, settled}
+use Rattle.basis.specs.Answers.{firstRefusal, settled}
 use Rattle.basis.proofs.Answers.{never}
 use Rattle.basis.proofs.Lists.{sortedBy-perm}
-use Rattle.meaning.specs.Report.{Entry, inOrder, reportBytes, reportLength, reportYear, entryCount, entriesOf, wellFormed}
+use Rattle.meaning.specs.Report.{Entry, inOrder, reportBytes, reportYear, entryCount, entriesOf}
 use Rattle.meaning.specs.Calls.{written, roomTest, formTest, yearTest, sharedTest, countTest, bothEntries, combined}
-use Rattle.demands.specs.Valid.{Ascending, entryNumber, Reportable}
-use Rattle.demands.specs.Exactly.{Row, Nowhere, at, FirstOf}
-use Rattle.demands.specs.Refusals.{NoReport, InBoth, combinationRows}
+use Rattle.demands.specs.Valid.{entryNumber, Reportable}
+use Rattle.demands.specs.Exactly.{Row, FirstOf}
+use Rattle.demands.specs.Refusals.{NoReport, combinationRows}
 use Rattle.demands.specs.Trees.{wrote, Accepted}
 use Rattle.demands.specs.Demand3.{GoodReport}
 use Rattle.demands.specs.Algebra.{Algebra}

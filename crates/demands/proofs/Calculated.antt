@@ -1,36 +1,34 @@
 -- What calculation makes of sources that nothing refuses, and that it refuses exactly when the table says. Assumes nothing.
 use mathlib.Core.Bool.{Bool, true, false, cond, _||_, _&&_, not}
 use mathlib.Core.List.{List, [], _∷_, _++_, map, append-assoc}
-use mathlib.Core.Logic.{_⊎_, inl, inr, ⊎-elim, _≢_}
+use mathlib.Core.Logic.{inl, inr, ⊎-elim, _≢_}
 use mathlib.Core.Path.{_≡_, refl, sym, ap, _∙_}
-use Prim.Native.Nat.{ℕ, zero, suc, _+_, _*_, _^_, _≤_, _<_}
-use native.Mathlib.Nat.{zero-add}
+use Prim.Native.Nat.{ℕ, _+_, _*_, _^_, _≤_, _<_}
 use native.Mathlib.Omega.{arith}
-use lib.Dec.{eqb, ltb, leb}
+use lib.Dec.{eqb, ltb}
 use lib.ListN.{length, getD, length-map, List·getD-map}
-use borrow.Author.Tests.{ltb-true, ltb-false, leb-true, eqb-true, eqb-false, le-ltb, eq-eqb, not-true, not-false}
+use borrow.Author.Tests.{ltb-false, eqb-true, le-ltb, eq-eqb, not-false}
 use Rattle.basis.specs.declared.Verdict.{Verdict}
-use Rattle.basis.specs.declared.Verdict.the-variants.{Passes, Refuses}
-use Rattle.basis.specs.Bytes.{numberAt, Bytes}
-use Rattle.basis.specs.Lists.{countUp, any, joined}
-use Rattle.basis.specs.Answers.{refuseIf, refuseAtFirst, firstRefusal, answer, Outcome}
+use Rattle.basis.specs.declared.Verdict.the-variants.{Passes}
+use Rattle.basis.specs.Bytes.{Bytes}
+use Rattle.basis.specs.Lists.{any, joined}
+use Rattle.basis.specs.Answers.{firstRefusal, answer}
 use Rattle.basis.specs.First.{first}
 use Rattle.basis.proofs.First.{clash, first-misses, first-end}
 use Rattle.basis.proofs.Answers.{passed-at-all, passed-then}
 use Rattle.basis.proofs.Lists.{length-countUp, length-sortedBy}
-use Rattle.meaning.specs.declared.Decoded.{Decoded}
-use Rattle.meaning.specs.declared.Decoded.the-variants.{Good, Bad}
+use Rattle.meaning.specs.declared.Decoded.the-variants.{Bad}
 use Rattle.meaning.specs.Methods.{within, listed, isBad}
 use Rattle.meaning.specs.Masses.{gasCount, gases, belowZero, mass, masses, equivalent, limit}
-use Rattle.meaning.specs.Register.{Source, yearOf, sourceCount, mostSources, sourcesAt, sourceLength, sourceEntry, numberIn, sourceAt, sourcesOf, unsound, decodedLines, registerTests}
-use Rattle.meaning.specs.Report.{Entry, entryOf, inOrder, reportBytes, reportLength}
+use Rattle.meaning.specs.Register.{Source, yearOf, sourceCount, mostSources, sourcesAt, sourceLength, sourceEntry, sourceAt, sourcesOf, unsound, decodedLines, registerTests}
+use Rattle.meaning.specs.Report.{entryOf, inOrder, reportBytes, reportLength}
 use Rattle.meaning.specs.Calls.{roomTest, badLine, lineTest, massFault, faultAt, massTest, entriesFor, calculated}
 use Rattle.meaning.proofs.Laws.{one-entry-each}
-use Rattle.demands.specs.Valid.{Each, Entered, Distinct, entryNumber, Reportable, LaidRight}
+use Rattle.demands.specs.Valid.{Each, Entered, Distinct, entryNumber, Reportable}
 use Rattle.demands.specs.Demand1.{Among, Answers}
 use Rattle.demands.specs.Exactly.{Exactly}
 use Rattle.demands.specs.Refusals.{registerRows, calculationRows}
-use Rattle.demands.proofs.Lists.{and-true, or-false, not-both, any-some, some-any, any-append, append-any, each-at, at-each}
+use Rattle.demands.proofs.Lists.{and-true, not-both, any-some, some-any, any-append, append-any, each-at, at-each}
 use Rattle.demands.proofs.Order.{each-map, sorted-each, sorted-ascending}
 use Rattle.demands.proofs.Rows.{numberAt-fits, bytes-drop}
 use Rattle.demands.proofs.Exactly.{passed-if, if-passed, each-passes, decide-append, DecideAll, Numbered, passed-append, passes-each, exactly-written, zero-passes, answers, room-decides}

@@ -1,35 +1,29 @@
 -- Calculation refuses exactly when the table says. Assumes nothing.
-use mathlib.Core.Bool.{Bool, true, false, cond, _||_, _&&_, not}
-use mathlib.Core.List.{List, [], _∷_, _++_, map, map-map}
-use mathlib.Core.Logic.{_⊎_, inl, inr, ⊎-elim, _≢_}
+use mathlib.Core.Bool.{Bool, true, false, cond, not}
+use mathlib.Core.List.{List, map, map-map}
+use mathlib.Core.Logic.{_⊎_, inl, inr, _≢_}
 use mathlib.Core.Path.{_≡_, refl, sym, ap, _∙_}
-use Prim.Native.Nat.{ℕ, zero, suc, _+_, _*_, _-_, _^_, _≤_, _<_}
+use Prim.Native.Nat.{ℕ, _+_, _≤_, _<_}
 use native.Mathlib.Nat.{add-zero, zero-add, sub-zero}
 use native.Mathlib.Numerals.{add-one}
 use native.Mathlib.Omega.{arith}
-use lib.Dec.{eqb, ltb, leb}
-use lib.ListN.{length, getD, take, drop, length-map, length-append, List·getD-map}
-use borrow.Author.Tests.{ltb-true, ltb-false, leb-true, leb-false, eqb-true, eqb-false, lt-ltb, le-ltb, le-leb, lt-leb, eq-eqb, ne-eqb, not-true, not-false}
-use Rattle.basis.specs.declared.Verdict.{Verdict}
-use Rattle.basis.specs.declared.Verdict.the-variants.{Passes, Refuses}
-use Rattle.basis.specs.Bytes.{numberAt, Bytes}
-use Rattle.basis.specs.Lists.{sum, countUp, any, joined}
-use Rattle.basis.specs.First.{first}
-use Rattle.basis.specs.Answers.{refuseIf, refuseAtFirst, firstRefusal}
+use lib.Dec.{eqb, ltb}
+use lib.ListN.{length, getD, length-map, List·getD-map}
+use borrow.Author.Tests.{ltb-true, ltb-false, eqb-true, eqb-false, lt-ltb, ne-eqb, not-true, not-false}
+use Rattle.basis.specs.Lists.{sum, countUp, joined}
 use Rattle.basis.proofs.First.{clash}
-use Rattle.basis.proofs.Answers.{passed-at-all}
 use Rattle.meaning.specs.declared.Decoded.{Decoded}
 use Rattle.meaning.specs.declared.Decoded.the-variants.{Good, Bad}
 use Rattle.meaning.specs.Methods.{decoded, isBad}
-use Rattle.meaning.specs.Masses.{carbonDioxide, added, taken, belowZero, rounded, mass, masses, weighed, equivalent, limit}
-use Rattle.meaning.specs.Register.{Source, sourceCount, lineCount, nameBytes, lineAt, sourceEntry, numberIn, methodIn, parameterIn, firstLineIn, lineCountIn, nameLengthIn, nameOffsetIn, sourceAt, sourcesOf, lineStart, nameStart, misplaced, decodedLines}
+use Rattle.meaning.specs.Masses.{added, taken, belowZero, rounded, mass, masses, weighed, equivalent, limit}
+use Rattle.meaning.specs.Register.{Source, sourceCount, lineCount, nameBytes, lineAt, sourceEntry, methodIn, parameterIn, firstLineIn, lineCountIn, nameLengthIn, nameOffsetIn, sourceAt, sourcesOf, lineStart, nameStart, misplaced, decodedLines}
 use Rattle.meaning.specs.Calls.{badLine, lineTest, massFault, faultAt, massTest}
-use Rattle.demands.specs.Valid.{Each, LaidRight}
-use Rattle.demands.specs.Exactly.{Row, at, atLeast, numbered}
+use Rattle.demands.specs.Valid.{LaidRight}
+use Rattle.demands.specs.Exactly.{at, atLeast, numbered}
 use Rattle.demands.specs.Refusals.{BadLine, BelowZero, AboveLimit, MassFault}
-use Rattle.demands.proofs.Lists.{and-true, or-false, not-both, getD-counted}
-use Rattle.demands.proofs.Blocks.{Block, Blocks, blocks-length, blocks-find, blocks-at}
-use Rattle.demands.proofs.Exactly.{Decides, DecideAll, decide-if, decide-first, decide-append}
+use Rattle.demands.proofs.Lists.{or-false, not-both}
+use Rattle.demands.proofs.Blocks.{Blocks, blocks-length, blocks-find, blocks-at}
+use Rattle.demands.proofs.Exactly.{Decides, decide-first}
 use Rattle.demands.proofs.RegisterTests.{decide-at-first, noSource, length-sources, source-at}
 
 -- where an entry stands

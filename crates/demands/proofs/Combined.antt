@@ -1,30 +1,28 @@
 -- What combination makes of two reports that go together; the reports of sources, as the third demand has them. Assumes nothing.
-use mathlib.Core.Bool.{Bool, true, false, not}
+use mathlib.Core.Bool.{not}
 use mathlib.Core.List.{List, [], _∷_, _++_, map, map-append, List·Permᴰ, Permᴰ·append-left, Permᴰ·append-right, List·Permᴰ·trans, Permᴰ·symm}
 use mathlib.Core.Logic.{_≢_}
 use mathlib.Core.Path.{_≡_, refl, sym, ap, ap₂, subst, _∙_}
-use Prim.Native.Nat.{ℕ, zero, suc, _+_, _≤_, _<_}
+use Prim.Native.Nat.{ℕ, _+_, _≤_}
 use native.Mathlib.Omega.{arith}
 use lib.Dec.{eqb, ltb}
 use lib.ListN.{length, getD, take, drop, length-append, length-map}
 use lib.Seq.{take-at}
 use borrow.Author.Tests.{le-ltb, eq-eqb, eqb-true}
-use Rattle.basis.specs.declared.Answer.{Answer}
 use Rattle.basis.specs.declared.Verdict.{Verdict}
 use Rattle.basis.specs.declared.Verdict.the-variants.{Passes, Refuses}
 use Rattle.basis.specs.Bytes.{splice}
-use Rattle.basis.specs.Lists.{any, sortedBy, insertBy}
 use Rattle.basis.specs.Answers.{firstRefusal, Outcome, settled}
 use Rattle.basis.proofs.Lists.{sortedBy-perm}
 use Rattle.meaning.proofs.Laws.{length-inOrder}
 use Rattle.meaning.specs.Register.{Source, mostSources}
-use Rattle.meaning.specs.Report.{Entry, entryOf, inOrder, reportBytes, reportLength, reportYear, entryCount, entriesOf, wellFormed}
+use Rattle.meaning.specs.Report.{Entry, entryOf, inOrder, reportBytes, reportLength, reportYear, entryCount, wellFormed}
 use Rattle.meaning.specs.Calls.{written, roomTest, formTest, yearTest, sharedTest, countTest, bothEntries, entriesFor, numbered, combined}
 use Rattle.demands.specs.Valid.{Each, Distinct, entryNumber, Reportable}
 use Rattle.demands.specs.Exactly.{Row, Nowhere}
-use Rattle.demands.specs.Refusals.{HasNumber, InBoth}
+use Rattle.demands.specs.Refusals.{InBoth}
 use Rattle.demands.specs.Trees.{wrote, Accepted}
-use Rattle.demands.proofs.Lists.{any-some, each-at, at-each}
+use Rattle.demands.proofs.Lists.{any-some, each-at}
 use Rattle.demands.proofs.Exactly.{Decides, passes-each, if-passed}
 use Rattle.demands.proofs.Reports.{noEntry, year-back, count-back, entries-back, report-right, report-bytes, length-report}
 use Rattle.demands.proofs.ReportCalls.{has, shared-decides, both-make}

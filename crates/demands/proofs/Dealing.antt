@@ -1,27 +1,25 @@
 -- The third demand: an accepted register's sources, dealt out in any way. Assumes nothing.
 use mathlib.Core.HLevel.{Unit-prop, ×-prop, ×₃-prop}
-use mathlib.Core.List.{List, [], _∷_, _++_, map, map-map, Perm, List·isSet, List·Permᴰ, Permᴰ·symm}
-use mathlib.Core.Logic.{_≢_, ∥∥₁-elim}
+use mathlib.Core.List.{List, [], _∷_, map, List·isSet, List·Permᴰ, Permᴰ·symm}
+use mathlib.Core.Logic.{∥∥₁-elim}
 use mathlib.Core.Path.{_≡_, refl, sym, ap, ap₂, subst, _∙_}
-use Prim.Native.Nat.{ℕ, zero, suc, _+_, _≤_, _<_}
+use Prim.Native.Nat.{ℕ, _<_}
 use native.Mathlib.Nat.{ℕ-set}
-use native.Mathlib.Omega.{arith}
-use lib.ListN.{length, getD}
-use Rattle.basis.specs.declared.Answer.{Answer}
+use lib.ListN.{length}
 use Rattle.basis.specs.Bytes.{Bytes}
 use Rattle.basis.specs.Lists.{joined}
 use Rattle.basis.specs.Answers.{Outcome}
-use Rattle.meaning.specs.Register.{Source, yearOf, sourceCount, mostSources, sourcesOf}
-use Rattle.meaning.specs.Report.{Entry, entryOf, inOrder, reportBytes, reportLength, entryCount}
+use Rattle.meaning.specs.Register.{Source, yearOf, mostSources, sourcesOf}
+use Rattle.meaning.specs.Report.{entryOf, inOrder, reportBytes, reportLength, entryCount}
 use Rattle.meaning.specs.Calls.{entriesFor, calculated, combined}
 use Rattle.demands.specs.Valid.{Each, Distinct, entryNumber, LaidRight}
-use Rattle.demands.specs.Trees.{Tree, report, combine, leaves, wrote, Accepted, result, EachAccepted, Room}
+use Rattle.demands.specs.Trees.{Tree, report, combine, leaves, wrote, Accepted, result, EachAccepted}
 use Rattle.demands.specs.Demand3.{Lent, Dealt, calculation, Dealing}
 use Rattle.demands.proofs.Lists.{each-at}
 use Rattle.demands.proofs.RegisterTests.{noSource, sourceNumber, length-sources, source-at}
 use Rattle.demands.proofs.Registers.{Passed}
 use Rattle.demands.proofs.Calculated.{Calculable, tests, made, accepted, accepting}
-use Rattle.demands.proofs.Trees.{Makes, makes-split, makes-perm, dealt}
+use Rattle.demands.proofs.Trees.{makes-split, makes-perm, dealt}
 use Rattle.demands.proofs.Combined.{accepted-written, InYears, Sources, reporting}
 
 -- what is said of answers and of bytes is said in one way only

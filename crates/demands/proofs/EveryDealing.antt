@@ -1,19 +1,18 @@
 -- For every way to deal an accepted register's sources out there are registers. Assumes nothing.
-use mathlib.Core.HLevel.{Unit-prop, ×-prop}
+use mathlib.Core.HLevel.{×-prop}
 use mathlib.Core.List.{List, [], _∷_, _++_, map, List·Permᴰ, List·Permᴰ·nil, List·Permᴰ·cons, List·Permᴰ·swap, List·Permᴰ·trans, Permᴰ·symm}
 use mathlib.Core.Logic.{∥∥₁-elim}
-use mathlib.Core.Path.{_≡_, refl, sym, ap, ap₂, _∙_}
-use Prim.Native.Nat.{ℕ, zero, suc, _+_, _≤_}
+use mathlib.Core.Path.{_≡_, refl, ap, ap₂, _∙_}
+use Prim.Native.Nat.{ℕ, _+_, _≤_}
 use native.Mathlib.Bridge.{le-prop}
 use native.Mathlib.Nat.{le-trans}
 use native.Mathlib.Omega.{arith}
 use lib.ListN.{length, length-append}
-use Rattle.basis.specs.Bytes.{Bytes}
 use Rattle.basis.specs.Lists.{sum, joined}
 use Rattle.meaning.specs.declared.RawLine.{RawLine}
-use Rattle.meaning.specs.Register.{Source, yearOf, sourcesOf, mostSources, mostLines, mostNameBytes, encode}
-use Rattle.demands.specs.Valid.{Each, LaidRight, LineFits, SourceFits, Encodable}
-use Rattle.demands.specs.Demand3.{Lent, EveryDealing}
+use Rattle.meaning.specs.Register.{Source, yearOf, sourcesOf}
+use Rattle.demands.specs.Valid.{Each, LineFits, SourceFits, Encodable}
+use Rattle.demands.specs.Demand3.{EveryDealing}
 use Rattle.demands.proofs.Order.{each-perm, each-map}
 use Rattle.demands.proofs.Trees.{each-split, length-perm}
 use Rattle.demands.proofs.Calculated.{accepted}

@@ -1,25 +1,25 @@
 -- Tests decide rows: the first refusal of a list of tests is the first row that refuses. Assumes nothing.
-use mathlib.Core.Bool.{Bool, true, false, cond}
+use mathlib.Core.Bool.{Bool, true, false}
 use mathlib.Core.List.{List, [], _∷_, _++_}
-use mathlib.Core.Logic.{_⊎_, inl, inr, ⊎-elim, _↔_, _≢_}
+use mathlib.Core.Logic.{inl, inr, ⊎-elim, _↔_, _≢_}
 use mathlib.Core.Path.{_≡_, refl, sym, ap, _∙_}
-use Prim.Native.Nat.{ℕ, zero, suc, _<_}
+use Prim.Native.Nat.{ℕ, _<_}
 use native.Mathlib.Omega.{arith}
 use lib.Dec.{ltb}
-use lib.ListN.{length, getD}
+use lib.ListN.{length}
 use borrow.Author.Tests.{ltb-true, ltb-false, lt-ltb}
 use Rattle.basis.specs.declared.Answer.{Answer}
 use Rattle.basis.specs.declared.Verdict.{Verdict}
 use Rattle.basis.specs.declared.Verdict.the-variants.{Passes, Refuses}
 use Rattle.basis.specs.First.{first}
-use Rattle.basis.specs.Answers.{refuseIf, refuseAtFirst, firstRefusal, answer, Outcome, settled}
+use Rattle.basis.specs.Answers.{refuseIf, firstRefusal, answer, settled}
 use Rattle.basis.proofs.First.{clash, first-hits, first-misses, first-is}
 use Rattle.basis.proofs.Answers.{never}
 use Rattle.basis.proofs.Bytes.{length-splice}
 use Rattle.meaning.specs.Calls.{roomTest, written}
 use Rattle.demands.specs.Valid.{Each}
 use Rattle.demands.specs.Demand1.{Among, FromTable, Answers}
-use Rattle.demands.specs.Exactly.{Row, Nowhere, at, atLeast, numbered, FirstOf, Exactly}
+use Rattle.demands.specs.Exactly.{Row, Nowhere, at, atLeast, FirstOf, Exactly}
 
 -- a test refuses exactly where its row does
 abbrev pub Decides : Verdict → Row → Type 0

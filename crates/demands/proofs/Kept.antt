@@ -1,5 +1,4 @@
 -- The three demands are kept. Assumes nothing.
-use mathlib.Core.Path.{_≡_}
 use Rattle.demands.specs.Demand1.{Demand1}
 use Rattle.demands.specs.Demand2.{Refusals, Encodings}
 use Rattle.demands.specs.Demands.{Demands}

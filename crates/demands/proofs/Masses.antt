@@ -1,30 +1,28 @@
 -- The masses of an accepted register, and what its report holds. Assumes nothing.
 use mathlib.Core.Bool.{Bool, true, false, cond}
-use mathlib.Core.List.{List, [], _∷_, _++_, map, Perm, map-map, List·Permᴰ}
+use mathlib.Core.List.{List, [], _∷_, _++_, map, map-map}
 use mathlib.Core.Logic.{_↔_}
-use mathlib.Core.Path.{_≡_, refl, sym, ap, ap₂, subst, _∙_}
-use Prim.Native.Nat.{ℕ, zero, suc, _+_, _*_, _-_, _/_, _^_, _≤_, _<_}
+use mathlib.Core.Path.{_≡_, refl, sym, ap, _∙_}
+use Prim.Native.Nat.{ℕ, zero, suc, _+_, _*_, _-_, _≤_, _<_}
 use native.Mathlib.Nat.{zero-add, div-lt-iff-lt-mul, le-div-iff-mul-le, div-eq-of-lt-le}
 use native.Mathlib.Omega.{arith}
 use lib.Dec.{ltb}
-use lib.ListN.{length, getD, length-map}
+use lib.ListN.{length, getD}
 use borrow.Author.Tests.{ltb-false}
-use Rattle.basis.specs.declared.Answer.{Answer}
-use Rattle.basis.specs.Bytes.{Bytes, splice}
-use Rattle.basis.specs.Lists.{sum, countUp, without}
+use Rattle.basis.specs.Bytes.{splice}
+use Rattle.basis.specs.Lists.{sum, without}
 use Rattle.basis.specs.declared.Verdict.{Verdict}
 use Rattle.basis.specs.declared.Verdict.the-variants.{Passes}
-use Rattle.basis.specs.Answers.{firstRefusal, Outcome, settled}
+use Rattle.basis.specs.Answers.{firstRefusal, settled}
 use Rattle.basis.proofs.Answers.{coincide, coincide-part}
 use Rattle.basis.proofs.Lists.{sortedBy-perm}
-use Rattle.meaning.specs.Masses.{gasCount, gases, divisors, carbonDioxide, added, taken, belowZero, rounded, mass, masses, equivalent, limit}
-use Rattle.meaning.specs.Register.{Source, yearOf, sourceCount, sourceAt, sourcesOf, decodedLines}
-use Rattle.meaning.specs.Report.{Entry, entryOf, figure, figureCount, totals, totalAt, inOrder, reportBytes, reportYear, entriesOf}
+use Rattle.meaning.specs.Masses.{gasCount, divisors, carbonDioxide, added, taken, belowZero, rounded, mass, masses, equivalent, limit}
+use Rattle.meaning.specs.Register.{Source, yearOf, sourceAt, sourcesOf, decodedLines}
+use Rattle.meaning.specs.Report.{entryOf, figure, figureCount, totalAt, inOrder, reportBytes, reportYear, entriesOf}
 use Rattle.meaning.specs.Methods.{decoded}
 use Rattle.meaning.specs.Calls.{roomTest, formTest, yearTest, sharedTest, countTest, absentTest, written, massFault, entriesFor, bothEntries, numbered, calculated, combined, removed}
 use Rattle.meaning.proofs.Laws.{one-entry-each, entries-of-both}
-use Rattle.demands.specs.Valid.{Each, entryNumber, Reportable}
-use Rattle.demands.specs.Trees.{Accepted}
+use Rattle.demands.specs.Valid.{entryNumber, Reportable}
 use Rattle.demands.specs.Demand2.{Nearest, Reports, Masses, Fixed}
 use Rattle.demands.proofs.Lists.{each-at, getD-counted}
 use Rattle.demands.proofs.Reports.{total-is, total-at, total-fits, report-right}

@@ -1,30 +1,27 @@
 -- The name lookups: empty exactly where document 01 says, and else the name where it stands. Assumes nothing.
-use mathlib.Core.Bool.{Bool, true, false, cond, _&&_, not}
+use mathlib.Core.Bool.{Bool, true, false, _&&_}
 use mathlib.Core.List.{List}
-use mathlib.Core.Logic.{_⊎_, inl, inr, ⊎-elim, _↔_, _≢_}
+use mathlib.Core.Logic.{_⊎_, inl, inr}
 use mathlib.Core.Path.{_≡_, refl, sym, ap, _∙_}
-use Prim.Native.Nat.{ℕ, zero, suc, _+_, _≤_, _<_}
+use Prim.Native.Nat.{ℕ, _≤_, _<_}
 use native.Mathlib.Decide.{decLt}
 use native.Mathlib.Omega.{arith}
-use lib.Dec.{eqb, ltb, leb}
-use lib.ListN.{length, getD, take, drop, length-drop}
+use lib.Dec.{ltb}
+use lib.ListN.{length, getD, drop, length-drop}
 use lib.Seq.{length-take-le}
-use borrow.Author.Tests.{ltb-true, ltb-false, leb-true, eqb-true, lt-ltb, eq-eqb, ne-eqb, not-false}
+use borrow.Author.Tests.{ltb-true, eqb-true, lt-ltb, eq-eqb, ne-eqb}
 use Rattle.basis.specs.declared.Verdict.{Verdict}
 use Rattle.basis.specs.declared.Verdict.the-variants.{Passes, Refuses}
-use Rattle.basis.specs.First.{first}
 use Rattle.basis.specs.Answers.{firstRefusal, passes}
 use Rattle.basis.proofs.First.{clash, first-hits, first-misses, first-is}
 use Rattle.basis.proofs.Answers.{never}
 use Rattle.meaning.specs.declared.Part.{Part}
 use Rattle.meaning.specs.declared.Found.{Found}
-use Rattle.meaning.specs.Methods.{within, listed}
-use Rattle.meaning.specs.Register.{Source, sourceCount, sourceEntry, numberIn, nameLengthIn, nameOffsetIn, namePlace, sourceAt, sourcesOf, unsound, registerTests}
+use Rattle.meaning.specs.Register.{sourceCount, sourceEntry, numberIn, nameLengthIn, namePlace, sourceAt, sourcesOf, registerTests}
 use Rattle.meaning.specs.Calls.{accepted, hasNumber, indexOf, holds, nameAt, found, inRegister, foundOfTwo}
-use Rattle.demands.specs.Exactly.{FirstOf}
 use Rattle.demands.specs.Refusals.{registerRows}
 use Rattle.demands.specs.Demand2.{Refused, Numbered, Absent, IsName, partOf, Names}
-use Rattle.demands.proofs.Lists.{and-true, or-false, not-both}
+use Rattle.demands.proofs.Lists.{not-both}
 use Rattle.demands.proofs.Exactly.{first-decides}
 use Rattle.demands.proofs.RegisterTests.{noSource, sourceNumber, length-sources, source-at, register-decides}
 use Rattle.demands.proofs.Registers.{sound-parts, Passed, passed, distinct-lt}
@@ -39,7 +36,7 @@ accepted-passes : (b : List ℕ) → accepted b ≡ true → firstRefusal (regis
 unfolding accepted
 accepted-passes b e = passes-is (firstRefusal (registerTests b)) e
 
-not-refused : (b : List ℕ) → accepted b ≡ true → Refused b → ⊥
+pub not-refused : (b : List ℕ) → accepted b ≡ true → Refused b → ⊥
 not-refused b e r = never (sym (accepted-passes b e) ∙ first-decides (registerTests b) (registerRows b) (register-decides b) (r .0) (r .1) .1 (r .2))
 
 refused : (b : List ℕ) → accepted b ≡ false → Refused b

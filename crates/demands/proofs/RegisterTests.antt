@@ -1,28 +1,25 @@
 -- The tests 1 to 4 of a register decide their rows. Assumes nothing.
 use mathlib.Core.Bool.{Bool, true, false, _||_, _&&_, not}
-use mathlib.Core.List.{List, [], _∷_, _++_, map}
-use mathlib.Core.Logic.{_⊎_, inl, inr, ⊎-elim, _↔_, _≢_}
+use mathlib.Core.List.{List, [], _∷_, map}
+use mathlib.Core.Logic.{_⊎_, inl, inr, ⊎-elim, _≢_}
 use mathlib.Core.Path.{_≡_, refl, sym, ap, _∙_}
-use Prim.Native.Nat.{ℕ, zero, suc, _+_, _≤_, _<_}
+use Prim.Native.Nat.{ℕ, _<_}
 use native.Mathlib.Nat.{zero-add}
 use native.Mathlib.Omega.{arith}
 use lib.Dec.{eqb, ltb, leb}
 use lib.ListN.{length, getD, take, length-map, List·getD-map, length-take}
 use lib.Seq.{getD-take}
-use borrow.Author.Tests.{ltb-true, ltb-false, leb-true, leb-false, eqb-true, eqb-false, lt-ltb, le-ltb, le-leb, lt-leb, eq-eqb, ne-eqb, not-true, not-false}
-use Rattle.basis.specs.declared.Verdict.{Verdict}
-use Rattle.basis.specs.declared.Verdict.the-variants.{Passes, Refuses}
+use borrow.Author.Tests.{ltb-true, leb-false, eqb-true, eqb-false, lt-ltb, lt-leb, eq-eqb, not-true, not-false}
 use Rattle.basis.specs.Bytes.{numberAt, ascii, startsWith}
-use Rattle.basis.specs.Lists.{countUp, any, stands}
+use Rattle.basis.specs.Lists.{countUp, stands}
 use Rattle.basis.specs.First.{first}
-use Rattle.basis.specs.Answers.{refuseIf, refuseAtFirst, firstRefusal}
+use Rattle.basis.specs.Answers.{refuseIf, refuseAtFirst}
 use Rattle.basis.proofs.First.{clash}
 use Rattle.basis.proofs.Lists.{length-countUp}
-use Rattle.meaning.specs.Methods.{within}
-use Rattle.meaning.specs.Register.{Source, registerTag, registerLayout, yearOf, isYear, sourceCount, mostSources, lineCount, mostLines, nameBytes, mostNameBytes, sourcesAt, linesAt, namesAt, wholeLength, lengthTest, headerTests, sourceEntry, numberIn, sourceAt, sourcesOf, lineStart, nameStart, misplaced, unsound, wrongSource, sourceTest, restTest, repeats, repeatTest, registerTests}
-use Rattle.demands.specs.Exactly.{Row, at, atLeast, numbered}
+use Rattle.meaning.specs.Register.{Source, registerTag, registerLayout, yearOf, isYear, sourceCount, mostSources, lineCount, mostLines, nameBytes, mostNameBytes, sourcesAt, linesAt, namesAt, wholeLength, headerTests, sourceEntry, numberIn, sourceAt, sourcesOf, lineStart, nameStart, misplaced, unsound, wrongSource, sourceTest, restTest, repeats, repeatTest, registerTests}
+use Rattle.demands.specs.Exactly.{at, atLeast, numbered}
 use Rattle.demands.specs.Refusals.{headerRows, WrongSource, Repeated, registerRows}
-use Rattle.demands.proofs.Lists.{and-true, or-false, true-and, or-true, not-both, any-some, some-any, getD-counted}
+use Rattle.demands.proofs.Lists.{and-true, or-false, or-true, any-some, some-any, getD-counted}
 use Rattle.demands.proofs.Rows.{starts-tag, taken-starts}
 use Rattle.demands.proofs.Exactly.{Decides, DecideAll, decide-if, decide-first, decide-append}
 

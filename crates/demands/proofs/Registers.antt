@@ -1,27 +1,26 @@
 -- A register that passes 1 to 4 is laid right, its sources are sound, and no number stands twice; and the other way round. Assumes nothing.
-use mathlib.Core.Bool.{Bool, true, false, _||_, _&&_, not}
-use mathlib.Core.List.{List, [], _∷_, _++_, map}
+use mathlib.Core.Bool.{true, false, _||_, not}
+use mathlib.Core.List.{List, [], _∷_, map}
 use mathlib.Core.Logic.{_≢_}
-use mathlib.Core.Path.{_≡_, refl, sym, ap, _∙_}
-use Prim.Native.Nat.{ℕ, zero, suc, _+_, _≤_, _<_, zero-le, suc-le-suc}
+use mathlib.Core.Path.{_≡_, sym, ap, _∙_}
+use Prim.Native.Nat.{ℕ, zero, suc, _≤_, _<_, zero-le, suc-le-suc}
 use native.Mathlib.Nat.{not-suc-le-zero, le-of-suc-le-suc}
 use native.Mathlib.Omega.{arith}
 use lib.Dec.{eqb, ltb, leb}
-use lib.ListN.{length, getD, take, length-map, List·getD-map}
-use borrow.Author.Tests.{ltb-false, leb-true, eqb-true, eqb-false, le-ltb, le-leb, eq-eqb, not-true, not-false}
-use Rattle.basis.specs.declared.Verdict.{Verdict}
+use lib.ListN.{length, getD, length-map, List·getD-map}
+use borrow.Author.Tests.{ltb-false, leb-true, eqb-true, eqb-false, le-ltb, le-leb, eq-eqb, not-false}
 use Rattle.basis.specs.declared.Verdict.the-variants.{Passes}
-use Rattle.basis.specs.Bytes.{numberAt, ascii, startsWith}
-use Rattle.basis.specs.Answers.{refuseIf, refuseAtFirst, firstRefusal}
+use Rattle.basis.specs.Bytes.{numberAt, startsWith}
+use Rattle.basis.specs.Answers.{refuseIf, firstRefusal}
 use Rattle.basis.proofs.First.{clash}
 use Rattle.basis.proofs.Answers.{passed-at-all}
 use Rattle.meaning.specs.Methods.{listed}
-use Rattle.meaning.specs.Register.{Source, registerTag, registerLayout, yearOf, isYear, sourceCount, mostSources, lineCount, mostLines, nameBytes, mostNameBytes, sourcesAt, linesAt, namesAt, wholeLength, lengthTest, headerTests, sourceAt, sourcesOf, lineStart, nameStart, misplaced, unsound, wrongSource, sourceTest, restTest, repeats, repeatTest, registerTests}
+use Rattle.meaning.specs.Register.{Source, registerTag, registerLayout, yearOf, isYear, sourceCount, mostSources, lineCount, mostLines, nameBytes, mostNameBytes, sourcesAt, linesAt, namesAt, wholeLength, headerTests, sourceAt, sourcesOf, lineStart, nameStart, misplaced, unsound, wrongSource, sourceTest, restTest, repeats, repeatTest, registerTests}
 use Rattle.demands.specs.Valid.{Each, Distinct, LaidRight}
 use Rattle.demands.proofs.Lists.{and-true, true-and, or-false, false-or, not-both, each-at, at-each}
 use Rattle.demands.proofs.Rows.{starts-tag, taken-starts}
 use Rattle.demands.proofs.Exactly.{each-passes, passes-each, passed-if, if-passed}
-use Rattle.demands.proofs.RegisterTests.{noSource, sourceNumber, length-sources, source-at, repeats-some, some-repeats}
+use Rattle.demands.proofs.RegisterTests.{noSource, sourceNumber, repeats-some, some-repeats}
 
 -- different keys, by index
 pub distinct-lt : {A : Type 0} (key : A → ℕ) (d : A) (xs : List A) → Distinct key xs → (i j : ℕ) → j < i → i < length xs → key (getD xs j d) ≢ key (getD xs i d)

@@ -1,28 +1,25 @@
 -- The empty report changes nothing; what is removed and combined again comes back. Assumes nothing.
-use mathlib.Core.Bool.{Bool, true, false, cond, _||_, not}
-use mathlib.Core.List.{List, [], _∷_, _++_, map, append-nil, List·Permᴰ, List·Permᴰ·cons, List·Permᴰ·swap, List·Permᴰ·trans, List·Permᴰ·append-comm, Permᴰ·refl, Permᴰ·symm}
+use mathlib.Core.Bool.{true, not}
+use mathlib.Core.List.{List, [], _∷_, _++_, append-nil, List·Permᴰ, List·Permᴰ·cons, List·Permᴰ·swap, List·Permᴰ·trans, List·Permᴰ·append-comm, Permᴰ·refl, Permᴰ·symm}
 use mathlib.Core.Logic.{_≢_}
 use mathlib.Core.Path.{_≡_, refl, sym, ap, ap₂, subst, _∙_}
-use Prim.Native.Nat.{ℕ, zero, suc, _+_, _-_, _≤_, _<_}
+use Prim.Native.Nat.{ℕ, zero, suc, _-_, _≤_, _<_}
 use native.Mathlib.Nat.{not-suc-le-zero, le-of-suc-le-suc}
 use native.Mathlib.Omega.{arith}
-use lib.Dec.{eqb, ltb}
 use lib.ListN.{length, getD}
-use borrow.Author.Tests.{eq-eqb, ne-eqb, eqb-false}
-use Rattle.basis.specs.Bytes.{Bytes}
+use borrow.Author.Tests.{eq-eqb, ne-eqb}
 use Rattle.basis.specs.Lists.{any, without}
-use Rattle.meaning.specs.Register.{mostSources}
 use Rattle.meaning.specs.Report.{Entry, inOrder, reportBytes, reportLength, reportYear, entryCount, entriesOf, wellFormed}
 use Rattle.meaning.specs.Calls.{roomTest, formTest, numbered, absentTest, combined, removed}
-use Rattle.demands.specs.Valid.{Each, Entered, Distinct, Ascending, entryNumber, Reportable}
+use Rattle.demands.specs.Valid.{Each, Entered, Distinct, entryNumber, Reportable}
 use Rattle.demands.specs.Trees.{wrote, Accepted}
 use Rattle.demands.specs.Demand3.{GoodReport, Gives, Neutral, Again}
 use Rattle.demands.proofs.Lists.{each-at, some-any}
-use Rattle.demands.proofs.Order.{each-map, each-append, ascending-each, ascending-distinct, ascending-sorted, distinct-perm, sorted-perm}
+use Rattle.demands.proofs.Order.{ascending-each, ascending-distinct, ascending-sorted, distinct-perm, sorted-perm}
 use Rattle.demands.proofs.Exactly.{passes-each, if-passed}
-use Rattle.demands.proofs.Reports.{noEntry, year-back, count-back, entries-back, report-right, report-bytes, length-report}
+use Rattle.demands.proofs.Reports.{year-back, count-back, entries-back, report-right, length-report}
 use Rattle.demands.proofs.WellFormed.{formed, reportable, report-again}
-use Rattle.demands.proofs.ReportCalls.{without-make, without-each, without-absent, without-one}
+use Rattle.demands.proofs.ReportCalls.{without-make, without-absent, without-one}
 use Rattle.demands.proofs.Combined.{accepted-written, enough-room, apart, combined-writes}
 
 pub good-made : (b : List ℕ) → GoodReport b → Reportable (reportYear b) (entriesOf b) × (reportBytes (reportYear b) (entriesOf b) ≡ b)

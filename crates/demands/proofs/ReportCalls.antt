@@ -1,9 +1,9 @@
 -- Combination, removal, the report check and the text refuse exactly when the table says. Assumes nothing.
 use mathlib.Core.Bool.{Bool, true, false, cond, _||_, not}
 use mathlib.Core.List.{List, [], _∷_, _++_, map}
-use mathlib.Core.Logic.{_⊎_, inl, inr, ⊎-elim, _↔_, _≢_}
+use mathlib.Core.Logic.{inl, inr, ⊎-elim, _≢_}
 use mathlib.Core.Path.{_≡_, refl, sym, ap, _∙_}
-use Prim.Native.Nat.{ℕ, zero, suc, _+_, _-_, _≤_, _<_}
+use Prim.Native.Nat.{ℕ, suc, _+_, _-_, _≤_, _<_}
 use native.Mathlib.Nat.{le-trans}
 use native.Mathlib.Omega.{arith}
 use native.Mathlib.Decide.{decLt}
@@ -15,7 +15,7 @@ use Rattle.basis.specs.declared.Verdict.the-variants.{Passes, Refuses}
 use Rattle.basis.specs.Bytes.{numberAt, Bytes}
 use Rattle.basis.specs.Lists.{stands, any, without}
 use Rattle.basis.specs.First.{first}
-use Rattle.basis.specs.Answers.{refuseIf, firstRefusal, answer, settled, Outcome}
+use Rattle.basis.specs.Answers.{refuseIf, firstRefusal, answer}
 use Rattle.basis.proofs.First.{clash, first-hits, first-misses, first-is}
 use Rattle.basis.proofs.Answers.{never}
 use Rattle.basis.proofs.Lists.{length-sortedBy}
@@ -27,10 +27,10 @@ use Rattle.meaning.proofs.Laws.{length-inOrder}
 use Rattle.demands.specs.Valid.{Each, Entered, Ascending, Distinct, entryNumber, Reportable}
 use Rattle.demands.specs.Demand1.{FromTable, Answers}
 use Rattle.demands.specs.Exactly.{Row, Nowhere, at, FirstOf, Exactly}
-use Rattle.demands.specs.Refusals.{NoReport, HasNumber, InBoth, roomRow, combinationRows, removalRows, checkRows, textLength, textRows}
-use Rattle.demands.proofs.Lists.{not-both, any-some, some-any, any-map, each-at, at-each}
-use Rattle.demands.proofs.Order.{each-map, each-append, ascending-each, ascending-distinct, ascending-lt, sorted-each, sorted-ascending, distinct-append}
-use Rattle.demands.proofs.Exactly.{Decides, DecideAll, each-passes, passes-nowhere, first-decides, exactly, exactly-written, zero-passes, answers, answers-verdict, Numbered, room-decides, decide-if, refuses-number, refuses-place, refuses-both}
+use Rattle.demands.specs.Refusals.{NoReport, HasNumber, InBoth, combinationRows, removalRows, checkRows, textLength, textRows}
+use Rattle.demands.proofs.Lists.{not-both, any-some, some-any, any-map, at-each}
+use Rattle.demands.proofs.Order.{each-append, ascending-each, ascending-distinct, ascending-lt, sorted-each, sorted-ascending, distinct-append}
+use Rattle.demands.proofs.Exactly.{Decides, DecideAll, each-passes, passes-nowhere, exactly, exactly-written, zero-passes, answers, answers-verdict, Numbered, room-decides, decide-if, refuses-number, refuses-place, refuses-both}
 use Rattle.demands.proofs.Reports.{noEntry, report-right, length-report}
 use Rattle.demands.proofs.WellFormed.{formed, reportable, report-again, count-is, entry-at}
 

@@ -1,25 +1,25 @@
 -- A report is well-formed exactly if it is written of a year and entries that make a report. Assumes nothing.
-use mathlib.Core.Bool.{Bool, true, false, _||_, _&&_, not}
+use mathlib.Core.Bool.{true, false}
 use mathlib.Core.List.{List, [], _∷_, _++_, map, append-assoc, append-nil}
 use mathlib.Core.Path.{_≡_, refl, sym, ap, _∙_}
-use Prim.Native.Nat.{ℕ, zero, suc, _+_, _*_, _-_, _^_, _≤_, _<_, zero-le, suc-le-suc}
-use native.Mathlib.Nat.{add-zero, zero-add, mul-zero, add-assoc, not-suc-le-zero, le-of-suc-le-suc, le-trans, mul-le-mul-right}
+use Prim.Native.Nat.{ℕ, zero, suc, _+_, _*_, _^_, _≤_, _<_, zero-le, suc-le-suc}
+use native.Mathlib.Nat.{zero-add, not-suc-le-zero, le-of-suc-le-suc, le-trans, mul-le-mul-right}
 use native.Mathlib.Omega.{arith}
 use lib.Dec.{eqb, ltb, leb}
 use lib.ListN.{length, getD, take, drop, replicate, length-append, length-map, length-replicate, getD-replicate, List·getD-append}
-use lib.Seq.{take-at, drop-at, drop-drop, getD-append-seam, getD-append-add}
-use borrow.Author.Tests.{ltb-true, ltb-false, leb-true, leb-false, eqb-true, eqb-false, lt-ltb, le-ltb, le-leb, lt-leb, eq-eqb, ne-eqb, not-true, not-false}
-use Rattle.basis.specs.Bytes.{bytesOf, numberOf, numberAt, packed, Bytes, startsWith}
-use Rattle.basis.specs.Lists.{sum, countUp, any, joined}
+use lib.Seq.{drop-at, drop-drop, getD-append-seam}
+use borrow.Author.Tests.{le-ltb, le-leb, lt-leb, eq-eqb}
+use Rattle.basis.specs.Bytes.{numberAt, packed, Bytes, startsWith}
+use Rattle.basis.specs.Lists.{sum, countUp, joined}
 use Rattle.basis.proofs.Bytes.{Fits, length-packed, numberAt-packed, packed-bytes, append-bytes}
 use Rattle.basis.proofs.Lists.{length-countUp}
 use Rattle.meaning.specs.Methods.{within}
 use Rattle.meaning.specs.Masses.{gasCount, gases, warming, weighed, equivalent, limit}
-use Rattle.meaning.specs.Register.{isYear, mostSources}
+use Rattle.meaning.specs.Register.{mostSources}
 use Rattle.meaning.specs.Report.{Entry, figures, figureCount, figure, totals, reportTag, reportLayout, entriesAt, entryLength, reportLength, reportHeader, entryBytes, reportBytes, reportYear, entryCount, totalAt, entryAt, figureIn, entryIn, entriesOf, headerRight, numberBefore, wrongEntry, wrongTotal, wellFormed}
 use Rattle.demands.specs.Valid.{Each, Entered, Ascending, entryNumber, Reportable}
-use Rattle.demands.proofs.Lists.{and-true, true-and, or-false, false-or, none-counted, counted-none, getD-counted, counted-list, each-at, at-each, sum-widths, sum-bounded}
-use Rattle.demands.proofs.Rows.{tag-starts, starts-tag, numberAt-behind, numberAt-front, numberAt-drop, read-rows, write-rows, row-at, length-rows, each-bytes, joined-bytes}
+use Rattle.demands.proofs.Lists.{none-counted, getD-counted, counted-list, each-at, sum-widths, sum-bounded}
+use Rattle.demands.proofs.Rows.{tag-starts, numberAt-behind, read-rows, row-at, length-rows, each-bytes, joined-bytes}
 
 -- Figures and totals. An entry's figures are as many as the gases and one, and none is above the limit.
 pub length-figures : (e : Entry) → Entered e → length (figures e) ≡ figureCount

@@ -1,18 +1,17 @@
 -- Records of one length behind one another: read back as they were written, and written back as they were read. Assumes nothing.
 use mathlib.Core.Bool.{true}
-use mathlib.Core.List.{List, [], _∷_, _++_, map, append-assoc, append-nil}
+use mathlib.Core.List.{List, [], _∷_, _++_, map, append-assoc}
 use mathlib.Core.Path.{_≡_, refl, sym, ap, _∙_}
-use Prim.Native.Nat.{ℕ, zero, suc, _+_, _*_, _-_, _^_, _≤_, _<_, suc-le-suc}
-use native.Mathlib.Nat.{add-zero, zero-add, mul-zero, add-assoc, le-of-suc-le-suc, not-suc-le-zero, lt-of-lt-of-le, pow-le-pow-right}
-use native.Mathlib.Numerals.{add-one}
+use Prim.Native.Nat.{ℕ, zero, suc, _+_, _*_, _^_, _≤_, _<_}
+use native.Mathlib.Nat.{add-zero, mul-zero, le-of-suc-le-suc, not-suc-le-zero, lt-of-lt-of-le, pow-le-pow-right}
 use native.Mathlib.Omega.{arith}
 use lib.Dec.{eqb}
 use borrow.Author.Tests.{eqb-true, eq-eqb}
 use lib.ListN.{length, getD, take, drop, replicate, length-append, length-take, length-drop, take-append-drop}
-use lib.Seq.{take-at, drop-at, drop-drop, take-add, length-take-le, getD-take, getD-drop, drop-append-add, drop-append-le, take-append-le}
-use Rattle.basis.specs.Bytes.{bytesOf, numberOf, numberAt, packed, Bytes, startsWith}
+use lib.Seq.{drop-at, drop-drop, take-add, length-take-le, getD-drop, drop-append-add, drop-append-le, take-append-le}
+use Rattle.basis.specs.Bytes.{bytesOf, numberAt, packed, Bytes, startsWith}
 use Rattle.basis.specs.Lists.{sum, countUp, joined}
-use Rattle.basis.proofs.Bytes.{append-bytes, length-bytesOf, numberOf-bytesOf, bytesOf-numberOf, numberOf-fits}
+use Rattle.basis.proofs.Bytes.{append-bytes, bytesOf-numberOf, numberOf-fits}
 use Rattle.demands.specs.Valid.{Each}
 use Rattle.demands.proofs.Lists.{and-true, true-and}
 

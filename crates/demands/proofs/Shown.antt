@@ -1,5 +1,5 @@
 -- The premises of the statements are met: computed. Assumes nothing.
-use mathlib.Core.Bool.{Bool, true, false}
+use mathlib.Core.Bool.{false}
 use mathlib.Core.List.{List, [], _∷_, List·Permᴰ·cons, List·Permᴰ·swap, List·Permᴰ·trans}
 use mathlib.Core.Path.{_≡_, refl}
 use Prim.Native.Nat.{ℕ, zero, suc, _≤_}
@@ -20,6 +20,9 @@ use Rattle.demands.specs.Demand3.{Dealt, calculation}
 use Rattle.demands.specs.Shown.{Shown, acid, zeros, lent, whole}
 use Rattle.demands.proofs.Lists.{or-false}
 use Rattle.demands.proofs.Registers.{passed}
+use Rattle.demands.proofs.WellFormed.{formed, reportable}
+use Rattle.demands.proofs.Laid.{laid-encodable}
+use Rattle.demands.proofs.Names.{not-refused}
 
 -- no element of a list is 256 or more
 all-bytes : (bs : List ℕ) → any (leb 256) bs ≡ false → Bytes bs
@@ -51,6 +54,9 @@ shown =
       formed = record { bytes = all-bytes (wrote (calculation whole)) refl; formed = refl };
       entries = refl;
       twice = refl;
+      encodable = laid-encodable (whole .register) (all-bytes (whole .register) refl) (passed (whole .register) refl .laid);
+      reportable = reportable (wrote (calculation whole)) (all-bytes (wrote (calculation whole)) refl) (formed (wrote (calculation whole)) refl);
+      unrefused = not-refused (whole .register) refl;
       there = (omega arith, refl);
       comesBack = refl;
       left = refl;

@@ -1,18 +1,18 @@
 -- A source removed from its register's report, and its own report combined again. Assumes nothing.
 use mathlib.Core.List.{List, [], _∷_, map, List·Permᴰ, List·Permᴰ·nil, List·Permᴰ·cons, List·Permᴰ·swap, List·Permᴰ·trans, Permᴰ·symm}
 use mathlib.Core.Path.{_≡_, refl, sym, ap, subst, subst₂, _∙_}
-use Prim.Native.Nat.{ℕ, zero, suc, _-_, _≤_, _<_, zero-le, suc-le-suc}
+use Prim.Native.Nat.{ℕ, zero, suc, _<_, zero-le, suc-le-suc}
 use native.Mathlib.Nat.{not-suc-le-zero, le-of-suc-le-suc}
 use native.Mathlib.Omega.{arith}
 use lib.ListN.{length, getD, length-map, List·getD-map}
 use Rattle.basis.specs.Lists.{insertBy, sortedBy}
 use Rattle.basis.proofs.Lists.{sortedBy-perm}
 use Rattle.meaning.specs.Register.{Source, yearOf, sourceCount, sourcesOf}
-use Rattle.meaning.specs.Report.{Entry, entryOf, inOrder, reportBytes, reportLength}
+use Rattle.meaning.specs.Report.{entryOf, inOrder, reportBytes}
 use Rattle.meaning.specs.Calls.{entriesFor, removed}
-use Rattle.demands.specs.Valid.{Each, entryNumber}
+use Rattle.demands.specs.Valid.{entryNumber}
 use Rattle.demands.specs.Trees.{wrote, Accepted}
-use Rattle.demands.specs.Demand3.{Lent, calculation, Gives, SourceAgain}
+use Rattle.demands.specs.Demand3.{calculation, Gives, SourceAgain}
 use Rattle.demands.proofs.Lists.{each-at}
 use Rattle.demands.proofs.RegisterTests.{length-sources}
 use Rattle.demands.proofs.Calculated.{Calculable}

@@ -1,17 +1,15 @@
 -- Demand 3, over any verdict of sources and any writer of reports: however sources are dealt and reports are combined, the whole comes out. Assumes nothing.
-use mathlib.Core.HLevel.{×-prop}
-use mathlib.Core.List.{List, [], _∷_, _++_, map, append-nil, append-assoc, List·isSet, nil≢cons, cons≢nil, head-eq-of-cons-eq, tail-eq-of-cons-eq, List·Permᴰ, List·Permᴰ·nil, List·Permᴰ·cons, List·Permᴰ·swap, List·Permᴰ·trans, List·Permᴰ·append-comm, Permᴰ·append-left, Permᴰ·append-right, Permᴰ·map, Permᴰ·symm}
+use mathlib.Core.List.{List, [], _∷_, _++_, map, append-nil, append-assoc, nil≢cons, cons≢nil, head-eq-of-cons-eq, tail-eq-of-cons-eq, List·Permᴰ, List·Permᴰ·nil, List·Permᴰ·cons, List·Permᴰ·swap, List·Permᴰ·trans, List·Permᴰ·append-comm, Permᴰ·append-left, Permᴰ·append-right, Permᴰ·map, Permᴰ·symm}
 use mathlib.Core.Logic.{_≢_}
 use mathlib.Core.Path.{_≡_, refl, sym, ap, ap₂, subst, subst⁻¹, subst₂, _∙_}
-use Prim.Native.Nat.{ℕ, zero, suc, _+_, _≤_, _<_}
+use Prim.Native.Nat.{ℕ, suc, _+_, _≤_}
 use native.Mathlib.Omega.{arith}
-use lib.ListN.{length, take, length-append, length-map}
-use Rattle.basis.specs.declared.Answer.{Answer}
+use lib.ListN.{length, length-append}
 use Rattle.basis.specs.Lists.{joined, sortedBy}
 use Rattle.basis.specs.Answers.{Outcome}
 use Rattle.demands.specs.Valid.{Each, Distinct}
 use Rattle.demands.specs.Trees.{Tree, report, combine, leaves, wrote, Accepted, result, EachAccepted, entries, Room}
-use Rattle.demands.proofs.Order.{each-append, each-perm, distinct-perm, sorted-perm}
+use Rattle.demands.proofs.Order.{each-perm, distinct-perm, sorted-perm}
 
 -- lists that are parts of lists
 pub each-split : {A : Type 0} (P : A → Type 0) (xs ys : List A) → Each P (xs ++ ys) → Each P xs × Each P ys

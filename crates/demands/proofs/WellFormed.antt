@@ -1,23 +1,22 @@
 -- A well-formed report is written of its year and its entries. Assumes nothing.
-use mathlib.Core.Bool.{Bool, true, false, _||_, _&&_, not}
-use mathlib.Core.List.{List, [], _∷_, _++_, map, append-assoc, append-nil}
+use mathlib.Core.Bool.{true, false}
+use mathlib.Core.List.{List, [], _∷_, _++_, map}
 use mathlib.Core.Path.{_≡_, refl, sym, ap, ap₂, _∙_}
-use Prim.Native.Nat.{ℕ, zero, suc, _+_, _*_, _-_, _^_, _≤_, _<_, zero-le, suc-le-suc}
-use native.Mathlib.Nat.{add-zero, zero-add, mul-zero, add-assoc, not-suc-le-zero, le-of-suc-le-suc, le-trans, mul-le-mul-right}
+use Prim.Native.Nat.{ℕ, zero, suc, _+_, _*_, _≤_, _<_}
+use native.Mathlib.Nat.{zero-add}
 use native.Mathlib.Omega.{arith}
-use lib.Dec.{eqb, ltb, leb}
-use lib.ListN.{length, getD, take, drop, replicate, length-append, length-drop, length-map, length-replicate, getD-replicate, List·getD-append, take-append-drop}
-use lib.Seq.{take-at, drop-at, drop-drop, getD-append-seam, getD-append-add, take-add, take-all}
-use borrow.Author.Tests.{ltb-true, ltb-false, leb-true, leb-false, eqb-true, eqb-false, lt-ltb, le-ltb, le-leb, lt-leb, eq-eqb, ne-eqb, not-true, not-false}
-use Rattle.basis.specs.Bytes.{bytesOf, numberOf, numberAt, packed, Bytes, startsWith}
-use Rattle.basis.specs.Lists.{sum, countUp, any, joined}
+use lib.ListN.{length, getD, take, drop, replicate, length-drop, length-map, take-append-drop}
+use lib.Seq.{take-add, take-all}
+use borrow.Author.Tests.{ltb-false, leb-true, leb-false, eqb-true, not-true, not-false}
+use Rattle.basis.specs.Bytes.{numberAt, packed, Bytes, startsWith}
+use Rattle.basis.specs.Lists.{sum, countUp, joined}
 use Rattle.basis.proofs.Lists.{length-countUp}
 use Rattle.meaning.specs.Methods.{within}
-use Rattle.meaning.specs.Masses.{gasCount, gases, warming, weighed, equivalent, limit}
-use Rattle.meaning.specs.Register.{isYear, mostSources}
-use Rattle.meaning.specs.Report.{Entry, figures, figureCount, figure, totals, reportTag, reportLayout, entriesAt, entryLength, reportLength, reportHeader, entryBytes, reportBytes, reportYear, entryCount, totalAt, entryAt, figureIn, entryIn, entriesOf, headerRight, numberBefore, wrongEntry, wrongTotal, wellFormed}
-use Rattle.demands.specs.Valid.{Each, Entered, Ascending, entryNumber, Reportable}
-use Rattle.demands.proofs.Lists.{and-true, true-and, or-false, false-or, none-counted, counted-none, getD-counted, counted-list, each-at, at-each, sum-widths, sum-bounded}
+use Rattle.meaning.specs.Masses.{gasCount, gases, equivalent, limit}
+use Rattle.meaning.specs.Register.{mostSources}
+use Rattle.meaning.specs.Report.{Entry, figures, figureCount, totals, reportTag, reportLayout, entriesAt, entryLength, reportLength, reportHeader, entryBytes, reportBytes, reportYear, entryCount, totalAt, entryAt, figureIn, entryIn, entriesOf, headerRight, numberBefore, wrongEntry, wrongTotal, wellFormed}
+use Rattle.demands.specs.Valid.{Entered, Reportable}
+use Rattle.demands.proofs.Lists.{and-true, or-false, counted-none, getD-counted, counted-list, at-each}
 use Rattle.demands.proofs.Reports.{noEntry, prior, at-ascending, headerWidths, headerNumbers, length-totals}
 use Rattle.demands.proofs.Rows.{starts-tag, numberAt-drop, numberAt-fits, unpacked, unpacked-same, packed-unpacked, bytes-drop, write-rows}
 

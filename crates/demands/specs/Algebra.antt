@@ -1,11 +1,9 @@
 -- Combination's algebra: order and grouping do not tell where reports are reports and go together; and where they tell. Assumes nothing.
-use mathlib.Core.List.{List, []}
+use mathlib.Core.List.{List}
 use mathlib.Core.Path.{_≡_}
-use lib.ListN.{replicate}
 use Prim.Native.Nat.{ℕ}
 use Rattle.basis.specs.declared.Answer.{Answer}
 use Rattle.basis.specs.Bytes.{Bytes}
-use Rattle.basis.specs.Answers.{Outcome}
 use Rattle.meaning.specs.Calls.{combined}
 use Rattle.demands.specs.Trees.{wrote, Accepted}
 use Rattle.demands.specs.Demand3.{GoodReport}

@@ -2,8 +2,8 @@
 -- them, to the nearest gram. Report, combination and removal are fixed to the byte. Each refusal is given exactly when the table says."
 -- Assumes nothing.
 use mathlib.Core.Bool.{true}
-use mathlib.Core.List.{List, [], _∷_, _++_, map, Perm}
-use mathlib.Core.Logic.{_⊎_, _↔_, _≢_}
+use mathlib.Core.List.{List, _++_, map, Perm}
+use mathlib.Core.Logic.{_⊎_, _↔_}
 use mathlib.Core.Path.{_≡_}
 use Prim.Native.Nat.{ℕ, _+_, _*_, _-_, _^_, _≤_, _<_}
 use lib.ListN.{length, getD, take, drop}
@@ -14,7 +14,7 @@ use Rattle.basis.specs.Answers.{Outcome, Gives, Shows}
 use Rattle.meaning.specs.declared.Part.{Part}
 use Rattle.meaning.specs.declared.Found.{Found}
 use Rattle.meaning.specs.Masses.{gasCount, divisors, carbonDioxide, added, taken, rounded}
-use Rattle.meaning.specs.Register.{Source, yearOf, sourceCount, sourceEntry, numberIn, nameLengthIn, namePlace, sourceAt, sourcesOf, decodedLines, encode}
+use Rattle.meaning.specs.Register.{Source, yearOf, sourceCount, sourceEntry, numberIn, namePlace, sourceAt, sourcesOf, decodedLines, encode}
 use Rattle.meaning.specs.Report.{Entry, entryOf, figure, figureCount, totalAt, reportBytes, reportLength, reportYear, entryCount, entriesOf, wellFormed}
 use Rattle.meaning.specs.Calls.{calculated, combined, removed, checked, text, found, foundOfTwo, numbered}
 use Rattle.demands.specs.Valid.{Each, Ascending, entryNumber, Reportable, LaidRight, Encodable}

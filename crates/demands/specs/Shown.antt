@@ -1,21 +1,18 @@
 -- The premises of the statements, all met: two boilers of equal name and lines, and an acid plant. Assumes nothing.
-use mathlib.Core.Bool.{true}
 use mathlib.Core.List.{List, [], _∷_, map, Perm}
 use mathlib.Core.Path.{_≡_}
-use Prim.Native.Nat.{ℕ, _≤_}
-use lib.ListN.{length, getD, replicate}
-use Rattle.basis.specs.declared.Answer.{Answer}
+use Prim.Native.Nat.{ℕ}
+use lib.ListN.{replicate}
 use Rattle.basis.specs.Bytes.{Bytes, ascii}
 use Rattle.basis.specs.Lists.{joined}
-use Rattle.basis.specs.Answers.{Outcome}
 use Rattle.meaning.specs.Register.{Source, sourcesOf, encode}
-use Rattle.meaning.specs.Report.{Entry, entryCount, reportLength, entriesOf, totalAt, wellFormed}
+use Rattle.meaning.specs.Report.{entriesOf, entryCount, reportLength, totalAt}
 use Rattle.meaning.specs.Calls.{combined, removed}
 use Rattle.meaning.specs.Starred.{line}
 use Rattle.meaning.specs.Examples.{boiler}
-use Rattle.demands.specs.Valid.{Each}
+use Rattle.demands.specs.Valid.{Each, Reportable, Encodable}
 use Rattle.demands.specs.Trees.{Tree, report, combine, leaves, wrote, Accepted, result, Room}
-use Rattle.demands.specs.Demand2.{Numbered, Nearest}
+use Rattle.demands.specs.Demand2.{Refused, Numbered, Nearest}
 use Rattle.demands.specs.Demand3.{Lent, Dealt, calculation, GoodReport}
 use Rattle.demands.specs.Algebra.{refusal}
 
@@ -58,6 +55,10 @@ pub record Shown : Type 0 where
   pub formed : GoodReport (wrote (calculation whole))
   pub entries : entryCount (wrote (calculation whole)) ≡ 3
   pub twice : totalAt (wrote (calculation whole)) 0 ≡ 5862400000
+  -- a year and sources that a register has room for; a year and entries that make a report; a register that 1 to 4 do not refuse
+  pub encodable : Encodable 2023 (boiler 8 ∷ boiler 7 ∷ acid ∷ [])
+  pub reportable : Reportable 2023 (entriesOf (wrote (calculation whole)))
+  pub unrefused : Refused (whole .register) → ⊥
   -- a source is there, is removed, and is combined again
   pub there : Numbered (whole .register) 7 1
   pub comesBack : again (wrote (calculation whole)) ≡ wrote (calculation whole)

@@ -3,7 +3,6 @@ use mathlib.Core.List.{List, [], _∷_, _++_}
 use mathlib.Core.Path.{_≡_}
 use Prim.Native.Nat.{ℕ, _+_, _≤_}
 use lib.ListN.{length, take}
-use Rattle.basis.specs.declared.Answer.{Answer}
 use Rattle.basis.specs.Answers.{Outcome}
 
 -- reports at the leaves; at each node the buffer that is lent to the combination of its two sides

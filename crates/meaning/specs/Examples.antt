@@ -1,17 +1,14 @@
 -- Cases beside the starred sums: document 01's own text of a report, and each number of its table with its place. Assumes nothing.
-use mathlib.Core.List.{List, [], _∷_, _++_, map}
+use mathlib.Core.List.{List, [], _∷_, map}
 use mathlib.Core.Path.{_≡_}
 use Prim.Native.Nat.{ℕ}
 use lib.ListN.{replicate, take}
 use Rattle.basis.specs.declared.Answer.{Answer}
 use Rattle.basis.specs.Bytes.{bytesOf, ascii, splice}
 use Rattle.basis.specs.Answers.{Outcome}
-use Rattle.meaning.specs.declared.RawLine.{RawLine}
-use Rattle.meaning.specs.declared.Part.{Part}
-use Rattle.meaning.specs.declared.Found.{Found}
 use Rattle.meaning.specs.Register.{Source, encode}
 use Rattle.meaning.specs.Calls.{calculated, combined, removed, checked, text, found, foundOfTwo}
-use Rattle.meaning.specs.Starred.{Result, gives, calculates, line, case}
+use Rattle.meaning.specs.Starred.{gives, calculates, line, case}
 
 -- "sources 8 and 7 in that order, equal names, each with the first case's line"
 abbrev pub boiler : ℕ → Source

@@ -1,12 +1,12 @@
 -- Document 01, "The register": its header, its sources, its lines, its names. Assumes nothing.
-use mathlib.Core.Bool.{Bool, not, _&&_, _||_}
+use mathlib.Core.Bool.{Bool, not, _||_}
 use mathlib.Core.List.{List, [], _∷_, _++_, map}
 use Prim.Native.Nat.{ℕ, zero, suc, _+_, _*_}
-use lib.Dec.{eqb, ltb, leb}
+use lib.Dec.{eqb, ltb}
 use lib.ListN.{length, getD, take, drop}
 use Rattle.basis.specs.declared.Verdict.{Verdict}
 use Rattle.basis.specs.Bytes.{numberAt, packed, ascii, startsWith}
-use Rattle.basis.specs.Lists.{sum, countUp, any, stands, joined}
+use Rattle.basis.specs.Lists.{countUp, any, stands, joined}
 use Rattle.basis.specs.Answers.{refuseIf, refuseAtFirst}
 use Rattle.meaning.specs.declared.RawLine.{RawLine}
 use Rattle.meaning.specs.declared.Decoded.{Decoded}

@@ -3,9 +3,7 @@ use mathlib.Core.List.{List, [], _∷_, map}
 use mathlib.Core.Path.{_≡_}
 use Prim.Native.Nat.{ℕ, zero, suc}
 use lib.ListN.{replicate}
-use Rattle.basis.specs.declared.Answer.{Answer}
 use Rattle.basis.specs.Lists.{countUp}
-use Rattle.basis.specs.Answers.{Outcome}
 use Rattle.meaning.specs.declared.RawLine.{RawLine}
 use Rattle.meaning.specs.Register.{Source, encode}
 use Rattle.meaning.specs.Report.{figureCount, reportLength, entryAt, figureIn}

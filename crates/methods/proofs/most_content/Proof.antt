@@ -1,4 +1,3 @@
-use borrow.Author.Needs.{needs}
 use borrow.Author.Tests.{eq-eqb, ne-eqb}
 use Rattle.methods.proofs.most_content.Statement.{statement}
 use Rattle.methods.proofs.most_content.Tie as tie
