@@ -28,8 +28,8 @@ use Rattle.demands.specs.Valid.{Each, Entered, Distinct, entryNumber, Re
 use Rattle.demands.specs.Demand1.{Among, Answers}
 use Rattle.demands.specs.Exactly.{Exactly}
 use Rattle.demands.specs.Refusals.{registerRows, calculationRows}
-use Rattle.demands.proofs.Lists.{and-true, not-both, any-some, some-any, any-append, append-any, each-at, at-each}
-use Rattle.demands.proofs.Order.{each-map, sorted-each, sorted-ascending}
+use Rattle.demands.proofs.Lists.{and-true, not-both, any-some, some-any, any-append, append-any, each-at, at-each, each-map}
+use Rattle.demands.proofs.Order.{sorted-each, sorted-ascending}
 use Rattle.demands.proofs.Rows.{numberAt-fits, bytes-drop}
 use Rattle.demands.proofs.Exactly.{passed-if, if-passed, each-passes, decide-append, DecideAll, Numbered, passed-append, passes-each, exactly-written, zero-passes, answers, room-decides}
 use Rattle.demands.proofs.Reports.{length-report}

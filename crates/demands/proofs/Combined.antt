@@ -22,14 +22,14 @@ use Rattle.demands.specs.Valid.{Each, Distinct, entryNumber, Reportable}
 use Rattle.demands.specs.Exactly.{Row, Nowhere}
 use Rattle.demands.specs.Refusals.{InBoth}
 use Rattle.demands.specs.Trees.{wrote, Accepted}
-use Rattle.demands.proofs.Lists.{any-some, each-at}
+use Rattle.demands.proofs.Lists.{any-some, each-at, each-split}
 use Rattle.demands.proofs.Exactly.{Decides, passes-each, if-passed}
 use Rattle.demands.proofs.Reports.{noEntry, year-back, count-back, entries-back, report-right, report-bytes, length-report}
-use Rattle.demands.proofs.ReportCalls.{has, shared-decides, both-make}
+use Rattle.demands.proofs.ReportTests.{has, shared-decides, both-make}
 use Rattle.demands.proofs.RegisterTests.{sourceNumber}
 use Rattle.demands.proofs.Calculated.{Calculable, entries-distinct, sources-make}
 use Rattle.demands.proofs.Order.{distinct-perm, sorted-perm}
-use Rattle.demands.proofs.Trees.{each-split, Makes, makes-split, Reporting}
+use Rattle.demands.proofs.Trees.{Makes, makes-split, Reporting}
 
 -- an accepted call that writes: what it made stands at the front
 splice-front : (xs ys : List ℕ) → take (length ys) (splice xs 0 ys) ≡ ys

@@ -1,152 +1,23 @@
 -- A register that is encoded is laid right, and is read back as the year and the sources that it is encoded of. Assumes nothing.
 use mathlib.Core.Bool.{false, not}
-use mathlib.Core.List.{List, [], _∷_, _++_, map, append-assoc, append-nil}
+use mathlib.Core.List.{List, [], _∷_, _++_, map, append-nil}
 use mathlib.Core.Path.{_≡_, refl, sym, ap, ap₂, _∙_}
 use Prim.Native.Nat.{ℕ, suc, _+_, _*_, _≤_, _<_}
 use native.Mathlib.Nat.{add-zero, zero-add}
 use native.Mathlib.Numerals.{add-one}
 use native.Mathlib.Omega.{arith}
 use lib.ListN.{length, getD, take, drop, length-append}
-use lib.Seq.{take-at, drop-at, drop-drop}
+use lib.Seq.{take-at}
 use borrow.Author.Tests.{eq-eqb, le-ltb}
 use Rattle.basis.specs.Bytes.{numberAt, packed, Bytes}
 use Rattle.basis.specs.Lists.{sum, countUp, any, joined}
-use Rattle.basis.proofs.Bytes.{Fits, length-packed, numberAt-packed, packed-bytes, append-bytes}
-use Rattle.meaning.specs.declared.RawLine.{RawLine}
-use Rattle.meaning.specs.Register.{Source, registerTag, registerLayout, yearOf, sourceCount, lineCount, mostLines, nameBytes, mostNameBytes, sourceLength, lineLength, sourcesAt, linesAt, namesAt, wholeLength, lineOf, lineAt, sourceEntry, numberIn, methodIn, parameterIn, firstLineIn, lineCountIn, nameLengthIn, nameOffsetIn, namePlace, sourceAt, sourcesOf, lineStart, nameStart, misplaced, lineBytes, sourceEntries, registerHeader, encode}
-use Rattle.demands.specs.Valid.{Each, LaidRight, LineFits, SourceFits, Encodable}
+use Rattle.basis.proofs.Bytes.{Fits, length-packed, packed-bytes, append-bytes}
+use Rattle.meaning.specs.Register.{Source, registerTag, registerLayout, yearOf, sourceCount, lineCount, nameBytes, sourceLength, lineLength, sourcesAt, linesAt, namesAt, wholeLength, lineOf, lineAt, sourceEntry, numberIn, methodIn, parameterIn, firstLineIn, lineCountIn, nameLengthIn, nameOffsetIn, namePlace, sourceAt, sourcesOf, lineStart, nameStart, misplaced, lineBytes, sourceEntries, registerHeader, encode}
+use Rattle.demands.specs.Valid.{LaidRight, LineFits, Encodable}
 use Rattle.demands.proofs.Lists.{false-or, counted-none}
-use Rattle.demands.proofs.Rows.{numberAt-drop, read-rows, length-rows, each-bytes, joined-bytes}
+use Rattle.demands.proofs.Rows.{numberAt-drop, read-rows, each-bytes, joined-bytes}
 use Rattle.demands.proofs.Calculation.{Placed}
-
--- bytes that stand in others at a place
-abbrev StandAt : List ℕ → ℕ → List ℕ → Type 0
-StandAt b p xs = (rest : List ℕ) × (drop p b ≡ xs ++ rest)
-
-stand-first : (b : List ℕ) (p : ℕ) (xs ys : List ℕ) → StandAt b p (xs ++ ys) → StandAt b p xs
-stand-first b p xs ys s = (ys ++ s .0, s .1 ∙ append-assoc xs ys (s .0))
-
-stand-next : (b : List ℕ) (p q : ℕ) (xs ys : List ℕ) → p + length xs ≡ q → StandAt b p (xs ++ ys) → StandAt b q ys
-stand-next b p q xs ys e s = (
-  s .0,
-  ap (λ (x : ℕ). drop x b) (sym e)
-      ∙ sym (drop-drop (length xs) p b)
-      ∙ ap (drop (length xs)) (s .1 ∙ append-assoc xs ys (s .0))
-      ∙ drop-at xs (ys ++ s .0) (length xs) refl,
-)
-
-numbers-at : (b : List ℕ) (p : ℕ) (ws ns : List ℕ) → StandAt b p (packed ws ns) → Fits ws ns → (i : ℕ) → i < length ws
-    → numberAt (getD ws i 0) (drop p b) (sum (take i ws)) ≡ getD ns i 0
-numbers-at b p ws ns s f i l = rw (s .1) (numberAt-packed ws ns (s .0) f i l)
-
--- A line's bytes. They are twenty, and are read back off the front.
-abbrev pub lineWidths : List ℕ
-lineWidths = 1 ∷ 1 ∷ 2 ∷ 4 ∷ 4 ∷ 8 ∷ []
-
-abbrev pub lineNumbers : RawLine → List ℕ
-lineNumbers l = l .kind ∷ l .unit ∷ l .code ∷ l .a ∷ l .b ∷ l .q ∷ []
-
-line-fits : (l : RawLine) → LineFits l → Fits lineWidths (lineNumbers l)
-line-fits l v = omega (arith, v .kind, v .unit, v .code, v .a, v .b, v .q)
-
-length-line : (l : RawLine) → LineFits l → length (lineBytes l) ≡ lineLength
-unfolding lineBytes sum
-length-line l v = length-packed lineWidths (lineNumbers l) (line-fits l v)
-
-line-back : (l : RawLine) (rest : List ℕ) → LineFits l → lineOf (lineBytes l ++ rest) ≡ l
-unfolding lineBytes sum
-line-back l rest v =
-    let number = numberAt-packed lineWidths (lineNumbers l) rest (line-fits l v) in
-    let kind : numberAt 1 (lineBytes l ++ rest) 0 ≡ l .kind = number 0 (omega arith) in
-    let unit : numberAt 1 (lineBytes l ++ rest) 1 ≡ l .unit = number 1 (omega arith) in
-    let code : numberAt 2 (lineBytes l ++ rest) 2 ≡ l .code = number 2 (omega arith) in
-    let a : numberAt 4 (lineBytes l ++ rest) 4 ≡ l .a = number 3 (omega arith) in
-    let b : numberAt 4 (lineBytes l ++ rest) 8 ≡ l .b = number 4 (omega arith) in
-    let q : numberAt 8 (lineBytes l ++ rest) 12 ≡ l .q = number 5 (omega arith) in
-    λ i. record { kind = kind i; unit = unit i; code = code i; a = a i; b = b i; q = q i }
-
-line-bytes : (l : RawLine) → Bytes (lineBytes l)
-unfolding lineBytes
-line-bytes l = packed-bytes lineWidths (lineNumbers l)
-
-abbrev pub rowsOf : List RawLine → List ℕ
-rowsOf ls = joined (map lineBytes ls)
-
-rows-append : (ks ls : List RawLine) → rowsOf (ks ++ ls) ≡ rowsOf ks ++ rowsOf ls
-unfolding joined
-rows-append [] ls = refl
-rows-append (k ∷ ks) ls = rw (rows-append ks ls) (sym (append-assoc (lineBytes k) (rowsOf ks) (rowsOf ls)))
-
-length-lines : (ls : List RawLine) → Each LineFits ls → length (rowsOf ls) ≡ lineLength * length ls
-length-lines = length-rows lineBytes lineOf lineLength LineFits length-line
-
--- Entries. What their sources have of lines and of name bytes, and that it keeps to what a register has room for.
-abbrev pub linesOf : List Source → List RawLine
-linesOf ss = joined (map (λ s. s .lines) ss)
-
-abbrev pub namesOf : List Source → List ℕ
-namesOf ss = joined (map (λ s. s .name) ss)
-
-abbrev pub entryWidths : List ℕ
-entryWidths = 4 ∷ 1 ∷ 1 ∷ 2 ∷ 2 ∷ 2 ∷ 4 ∷ []
-
-abbrev pub entryNumbers : ℕ → ℕ → Source → List ℕ
-entryNumbers line byte s = s .number ∷ s .method ∷ s .parameter ∷ length (s .lines) ∷ line ∷ length (s .name) ∷ byte ∷ []
-
-length-more : {A : Type 0} (part : Source → List A) (x : ℕ) (s : Source) (ss : List Source)
-    → x + length (part s) + length (joined (map part ss)) ≡ x + length (joined (map part (s ∷ ss)))
-unfolding joined
-length-more part x s ss = rw length-append (omega arith)
-
-record Room (line byte : ℕ) (ss : List Source) : Type 0 where
-  lines : line + length (linesOf ss) ≤ mostLines
-  names : byte + length (namesOf ss) ≤ mostNameBytes
-  each : Each SourceFits ss
-
-module _ (line byte : ℕ) (s : Source) (ss : List Source) (v : Room line byte (s ∷ ss)) where
-  room-next : Room (line + length (s .lines)) (byte + length (s .name)) ss
-  room-next = record { lines = rw (length-more (λ s. s .lines) line s ss) (v .lines); names = rw (length-more (λ s. s .name) byte s ss) (v .names); each = v .each .1 }
-
-  entry-fits : Fits entryWidths (entryNumbers line byte s)
-  entry-fits =
-      let f = v .each .0 in
-      omega (arith, f .number, f .method, f .parameter, room-next .lines, room-next .names)
-
-  length-entry : length (packed entryWidths (entryNumbers line byte s)) ≡ sourceLength
-  unfolding sum
-  length-entry = length-packed entryWidths (entryNumbers line byte s) entry-fits
-
-length-entries : (line byte : ℕ) (ss : List Source) → Room line byte ss → length (sourceEntries line byte ss) ≡ sourceLength * length ss
-unfolding sourceEntries
-length-entries line byte [] v = refl
-length-entries line byte (s ∷ ss) v =
-    rw (
-      length-append,
-      length-entry line byte s ss v,
-      length-entries (line + length (s .lines)) (byte + length (s .name)) ss (room-next line byte s ss v),
-    ) (omega arith)
-
-each-append : {A : Type 0} (P : A → Type 0) (xs ys : List A) → Each P xs → Each P ys → Each P (xs ++ ys)
-each-append P [] ys v w = w
-each-append P (x ∷ xs) ys v w = (v .0, each-append P xs ys (v .1) w)
-
-each-line : (ss : List Source) → Each SourceFits ss → Each LineFits (linesOf ss)
-unfolding joined
-each-line [] v = tt
-each-line (s ∷ ss) v = each-append LineFits (s .lines) (linesOf ss) (v .0 .lines) (each-line ss (v .1))
-
-names-bytes : (ss : List Source) → Each SourceFits ss → Bytes (namesOf ss)
-unfolding joined
-names-bytes [] v i = omega arith
-names-bytes (s ∷ ss) v i = append-bytes (s .name) (namesOf ss) (v .0 .name) (names-bytes ss (v .1)) i
-
-entries-bytes : (line byte : ℕ) (ss : List Source) → Bytes (sourceEntries line byte ss)
-unfolding sourceEntries
-entries-bytes line byte [] i = omega arith
-entries-bytes line byte (s ∷ ss) i =
-    let m = line + length (s .lines) in
-    let t = byte + length (s .name) in
-    append-bytes (packed entryWidths (entryNumbers line byte s)) (sourceEntries m t ss) (packed-bytes entryWidths (entryNumbers line byte s)) (entries-bytes m t ss) i
+use Rattle.demands.proofs.EncodedEntries.{StandAt, stand-first, stand-next, numbers-at, length-line, line-back, line-bytes, rowsOf, rows-append, length-lines, linesOf, namesOf, entryWidths, entryNumbers, length-more, Room, room-next, entry-fits, length-entry, length-entries, each-line, names-bytes, entries-bytes}
 
 -- an entry that begins where it should and does not run past what there is
 not-misplaced : (b : List ℕ) (i : ℕ) → Placed b i → misplaced b i ≡ false

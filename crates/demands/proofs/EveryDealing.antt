@@ -13,8 +13,9 @@ use Rattle.meaning.specs.declared.RawLine.{RawLine}
 use Rattle.meaning.specs.Register.{Source, yearOf, sourcesOf}
 use Rattle.demands.specs.Valid.{Each, LineFits, SourceFits, Encodable}
 use Rattle.demands.specs.Demand3.{EveryDealing}
-use Rattle.demands.proofs.Order.{each-perm, each-map}
-use Rattle.demands.proofs.Trees.{each-split, length-perm}
+use Rattle.demands.proofs.Lists.{each-map, each-split}
+use Rattle.demands.proofs.Order.{each-perm}
+use Rattle.demands.proofs.Trees.{length-perm}
 use Rattle.demands.proofs.Calculated.{accepted}
 use Rattle.demands.proofs.Encoded.{encode-laid, encode-year, encode-sources, encode-bytes}
 use Rattle.demands.proofs.Laid.{laid-encodable}

@@ -16,7 +16,8 @@ use Rattle.demands.specs.Valid.{Each, LaidRight, LineFits, SourceFits, E
 use Rattle.demands.proofs.Rows.{numberAt-drop, numberAt-fits, unpacked, packed-unpacked, bytes-drop, bytes-take, write-rows}
 use Rattle.demands.proofs.RegisterTests.{length-sources}
 use Rattle.demands.proofs.Calculation.{standing, next-line}
-use Rattle.demands.proofs.Encoded.{lineWidths, lineNumbers, rowsOf, linesOf, namesOf, entryWidths, entryNumbers, registerWidths, registerNumbers}
+use Rattle.demands.proofs.EncodedEntries.{lineWidths, lineNumbers, rowsOf, linesOf, namesOf, entryWidths, entryNumbers}
+use Rattle.demands.proofs.Encoded.{registerWidths, registerNumbers}
 
 each-map : {A B : Type 0} (P : B → Type 0) (f : A → B) → ((x : A) → P (f x)) → (xs : List A) → Each P (map f xs)
 each-map P f h [] = tt

@@ -5,11 +5,13 @@ pub mod Order
 pub mod Exactly
 pub mod Reports
 pub mod WellFormed
+pub mod ReportTests
 pub mod ReportCalls
 pub mod RegisterTests
 pub mod Registers
 pub mod Calculation
 pub mod Calculated
+pub mod EncodedEntries
 pub mod Encoded
 pub mod Laid
 pub mod Trees

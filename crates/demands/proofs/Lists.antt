@@ -123,3 +123,16 @@ append-any test [] ys e f = f
 append-any test (x ∷ xs) ys e f =
     let h = or-false (test x) (any test xs) e in
     false-or (test x) (any test (xs ++ ys)) (h .0) (append-any test xs ys (h .1) f)
+
+-- what is said of each of a list
+pub each-map : {A : Type 0} {P Q : A → Type 0} → ((x : A) → P x → Q x) → (xs : List A) → Each P xs → Each Q xs
+each-map f [] p = tt
+each-map f (x ∷ xs) p = (f x (p .0), each-map f xs (p .1))
+
+pub each-append : {A : Type 0} (P : A → Type 0) (xs ys : List A) → Each P xs → Each P ys → Each P (xs ++ ys)
+each-append P [] ys p q = q
+each-append P (x ∷ xs) ys p q = (p .0, each-append P xs ys (p .1) q)
+
+pub each-split : {A : Type 0} (P : A → Type 0) (xs ys : List A) → Each P (xs ++ ys) → Each P xs × Each P ys
+each-split P [] ys h = (tt, h)
+each-split P (x ∷ xs) ys h = let r = each-split P xs ys (h .1) in ((h .0, r .0), r .1)

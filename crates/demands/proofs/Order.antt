@@ -12,21 +12,13 @@ use lib.ListN.{length, getD}
 use borrow.Author.Tests.{le-leb, lt-leb, leb-true, leb-false}
 use Rattle.basis.specs.Lists.{insertBy, sortedBy}
 use Rattle.demands.specs.Valid.{Each, Ascending, Distinct}
-use Rattle.demands.proofs.Lists.{each-at}
+use Rattle.demands.proofs.Lists.{each-at, each-map, each-append}
 
 lt-ne : (m n : ℕ) → m < n → m ≡ n → ⊥
 lt-ne m n l e = omega arith
 
 lt-of-le-ne : {m n : ℕ} → m ≤ n → (m ≡ n → ⊥) → m < n
 lt-of-le-ne l e = omega arith
-
-pub each-map : {A : Type 0} {P Q : A → Type 0} → ((x : A) → P x → Q x) → (xs : List A) → Each P xs → Each Q xs
-each-map f [] p = tt
-each-map f (x ∷ xs) p = (f x (p .0), each-map f xs (p .1))
-
-pub each-append : {A : Type 0} (P : A → Type 0) (xs ys : List A) → Each P xs → Each P ys → Each P (xs ++ ys)
-each-append P [] ys p q = q
-each-append P (x ∷ xs) ys p q = (p .0, each-append P xs ys (p .1) q)
 
 -- what holds of each holds of each after dealing
 pub each-perm : {A : Type 0} (P : A → Type 0) {xs ys : List A} → List·Permᴰ xs ys → Each P xs → Each P ys

@@ -1,209 +1,33 @@
 -- Combination, removal, the report check and the text refuse exactly when the table says. Assumes nothing.
 use mathlib.Core.Bool.{Bool, true, false, cond, _||_, not}
-use mathlib.Core.List.{List, [], _∷_, _++_, map}
+use mathlib.Core.List.{List, [], _∷_, _++_}
 use mathlib.Core.Logic.{inl, inr, ⊎-elim, _≢_}
 use mathlib.Core.Path.{_≡_, refl, sym, ap, _∙_}
-use Prim.Native.Nat.{ℕ, suc, _+_, _-_, _≤_, _<_}
+use Prim.Native.Nat.{ℕ, suc, _+_, _-_, _≤_}
 use native.Mathlib.Nat.{le-trans}
 use native.Mathlib.Omega.{arith}
-use native.Mathlib.Decide.{decLt}
-use lib.Dec.{eqb, ltb}
-use lib.ListN.{length, getD, length-map, length-append, List·getD-map}
-use borrow.Author.Tests.{ltb-true, ltb-false, eqb-true, eqb-false, lt-ltb, eq-eqb, ne-eqb, not-true, not-false}
+use lib.ListN.{length, length-append}
+use borrow.Author.Tests.{eqb-true, ne-eqb, not-true, not-false}
 use Rattle.basis.specs.declared.Verdict.{Verdict}
-use Rattle.basis.specs.declared.Verdict.the-variants.{Passes, Refuses}
-use Rattle.basis.specs.Bytes.{numberAt, Bytes}
-use Rattle.basis.specs.Lists.{stands, any, without}
-use Rattle.basis.specs.First.{first}
-use Rattle.basis.specs.Answers.{refuseIf, firstRefusal, answer}
-use Rattle.basis.proofs.First.{clash, first-hits, first-misses, first-is}
-use Rattle.basis.proofs.Answers.{never}
-use Rattle.basis.proofs.Lists.{length-sortedBy}
+use Rattle.basis.specs.declared.Verdict.the-variants.{Passes}
+use Rattle.basis.specs.Bytes.{Bytes}
+use Rattle.basis.specs.Lists.{any, without}
+use Rattle.basis.specs.Answers.{firstRefusal, answer}
+use Rattle.basis.proofs.First.{clash}
 use Rattle.meaning.specs.Register.{mostSources}
-use Rattle.meaning.specs.Report.{Entry, reportBytes, reportLength, reportYear, entryCount, entryAt, entryIn, entriesOf, inOrder, wellFormed}
+use Rattle.meaning.specs.Report.{Entry, reportBytes, reportLength, reportYear, entryCount, entriesOf}
 use Rattle.meaning.specs.Text.{reportText}
-use Rattle.meaning.specs.Calls.{formTest, yearTest, sharedAt, sharedTest, countTest, roomTest, bothEntries, numbered, absentTest, combined, removed, checked, text}
+use Rattle.meaning.specs.Calls.{formTest, yearTest, sharedTest, countTest, roomTest, bothEntries, numbered, absentTest, combined, removed, checked, text}
 use Rattle.meaning.proofs.Laws.{length-inOrder}
 use Rattle.demands.specs.Valid.{Each, Entered, Ascending, Distinct, entryNumber, Reportable}
 use Rattle.demands.specs.Demand1.{FromTable, Answers}
-use Rattle.demands.specs.Exactly.{Row, Nowhere, at, FirstOf, Exactly}
-use Rattle.demands.specs.Refusals.{NoReport, HasNumber, InBoth, combinationRows, removalRows, checkRows, textLength, textRows}
-use Rattle.demands.proofs.Lists.{not-both, any-some, some-any, any-map, at-each}
-use Rattle.demands.proofs.Order.{each-append, ascending-each, ascending-distinct, ascending-lt, sorted-each, sorted-ascending, distinct-append}
-use Rattle.demands.proofs.Exactly.{Decides, DecideAll, each-passes, passes-nowhere, exactly, exactly-written, zero-passes, answers, answers-verdict, Numbered, room-decides, decide-if, refuses-number, refuses-place, refuses-both}
-use Rattle.demands.proofs.Reports.{noEntry, report-right, length-report}
-use Rattle.demands.proofs.WellFormed.{formed, reportable, report-again, count-is, entry-at}
-
--- 9
-pub form-decides : (b : List ℕ) (which : ℕ) → Bytes b → Decides (formTest b which) (at 9 which (NoReport b))
-form-decides b which h =
-    decide-if (not (wellFormed b)) 9 which (NoReport b)
-    (λ e year es v q. clash (ap wellFormed (sym q) ∙ report-right year es v) (not-true (wellFormed b) e))
-    (λ e f. let w = formed b (not-false (wellFormed b) e) in f (reportYear b) (entriesOf b) (reportable b h w) (report-again b h w))
-
-passed-form : (b : List ℕ) (which : ℕ) → formTest b which ≡ Passes → wellFormed b ≡ true
-passed-form b which e = by (wellFormed b) refl e
-  where
-    by : (c : Bool) → wellFormed b ≡ c → refuseIf (not c) 9 which ≡ Passes → wellFormed b ≡ true
-    by true p q = p
-    by false p q = absurd (never (sym q))
-
--- 10
-pub year-decides : (one other : List ℕ) → Decides (yearTest one other) (at 10 0 (reportYear one ≢ reportYear other))
-year-decides one other =
-    decide-if (not (eqb (reportYear one) (reportYear other))) 10 0 (reportYear one ≢ reportYear other)
-    (λ e. eqb-false _ _ (not-true _ e)) (λ e f. f (eqb-true _ _ (not-false _ e)))
-
--- the numbers of a well-formed report: by index, and ascending
-module _ (b : List ℕ) (h : Bytes b) (w : wellFormed b ≡ true) where
-  made-of : Reportable (reportYear b) (entriesOf b)
-  made-of = reportable b h (formed b w)
-
-  counted : length (entriesOf b) ≡ entryCount b
-  counted = count-is b h (formed b w)
-
-  number-at : (i : ℕ) → i < entryCount b → getD (entriesOf b) i noEntry .number ≡ numberAt 4 (entryAt b i) 0
-  unfolding entryIn
-  number-at i l = ap (λ (e : Entry). e .number) (entry-at b h (formed b w) i l)
-
-  pub has : (x : ℕ) → HasNumber b x → any (numbered x) (entriesOf b) ≡ true
-  has x r =
-      let l : r .0 < length (entriesOf b) = rw counted (r .1) in
-      some-any (numbered x) noEntry (entriesOf b) (r .0) l (eq-eqb _ x (number-at (r .0) (r .1) ∙ r .2))
-
-  pub has-it : (x : ℕ) → any (numbered x) (entriesOf b) ≡ true → HasNumber b x
-  has-it x e =
-      let r = any-some (numbered x) noEntry (entriesOf b) e in
-      let l : r .0 < entryCount b = rw counted at (r .1) in
-      (r .0, l, sym (number-at (r .0) l) ∙ eqb-true _ x (r .2))
-
--- 13
-pub absent-decides : (b : List ℕ) (x : ℕ) → Bytes b → wellFormed b ≡ true → Decides (absentTest b x) (at 13 x (HasNumber b x → ⊥))
-absent-decides b x h w =
-    decide-if (not (any (numbered x) (entriesOf b))) 13 x (HasNumber b x → ⊥)
-    (λ e r. clash (has b h w x r) (not-true _ e))
-    (λ e f. f (has-it b h w x (not-false _ e)))
-
-irrefl : {n : ℕ} → n < n → ⊥
-irrefl l = omega arith
-
--- 11. The numbers of the one, by index, and whether each stands in the other
-numbers : List ℕ → List ℕ
-numbers b = map entryNumber (entriesOf b)
-
-module _ (one other : List ℕ) (h : Bytes one) (g : Bytes other) (w : wellFormed one ≡ true) (v : wellFormed other ≡ true) where
-  shared-test : ℕ → Bool
-  shared-test = sharedAt (numbers one) (numbers other)
-
-  shared-at : (i : ℕ) → i < entryCount one → shared-test i ≡ any (numbered (numberAt 4 (entryAt one i) 0)) (entriesOf other)
-  unfolding shared-test sharedAt numbers stands
-  shared-at i l =
-      any-map (λ m. eqb m (getD (numbers one) i 0)) entryNumber (entriesOf other)
-      ∙ ap (λ (x : ℕ). any (numbered x) (entriesOf other)) (List·getD-map entryNumber (entriesOf one) i noEntry ∙ number-at one h w i l)
-
-  number-lt : (i k : ℕ) → i < k → k < entryCount one → numberAt 4 (entryAt one i) 0 < numberAt 4 (entryAt one k) 0
-  number-lt i k l m =
-      let q : k < length (entriesOf one) = rw (counted one h w) m in
-      rw (number-at one h w i (omega arith), number-at one h w k m) at (ascending-lt entryNumber 0 (entriesOf one) noEntry (made-of one h w .order) i k l q)
-
-  index-lt : (k i : ℕ) → k < entryCount one → i < entryCount one → numberAt 4 (entryAt one k) 0 < numberAt 4 (entryAt one i) 0 → k < i
-  index-lt k i m l e = by (decLt k i) (decLt i k)
-    where
-      by : Dec (k < i) → Dec (i < k) → k < i
-      by (yes q) o = q
-      by (no q) (yes o) = absurd (omega (arith, number-lt i k o m))
-      by (no q) (no o) = let f : k ≡ i = omega arith in absurd (irrefl (rw f at e))
-
-  long : length (numbers one) ≡ entryCount one
-  unfolding numbers
-  long = length-map (entriesOf one) entryNumber ∙ counted one h w
-
-  -- an index of the one at which the test holds has a number that stands in both
-  both-at : (i : ℕ) → i < entryCount one → shared-test i ≡ true → InBoth one other (numberAt 4 (entryAt one i) 0)
-  both-at i l e = ((i, l, refl), has-it other g v (numberAt 4 (entryAt one i) 0) (sym (shared-at i l) ∙ e))
-
-  at-both : (x : ℕ) (r : InBoth one other x) → shared-test (r .0 .0) ≡ true
-  at-both x r = shared-at (r .0 .0) (r .0 .1) ∙ ap (λ (y : ℕ). any (numbered y) (entriesOf other)) (r .0 .2) ∙ has other g v x (r .1)
-
-  place-at : (i : ℕ) → i < entryCount one → getD (numbers one) i 0 ≡ numberAt 4 (entryAt one i) 0
-  unfolding numbers
-  place-at i l = List·getD-map entryNumber (entriesOf one) i noEntry ∙ number-at one h w i l
-
-  pub shared-decides : Decides (sharedTest one other) (λ n p. (n ≡ 11) × InBoth one other p × ((x : ℕ) → x < p → InBoth one other x → ⊥))
-  unfolding sharedTest shared-test numbers
-  shared-decides n p = (by (ltb i (length (numbers one))) refl, back)
-    where
-      i : ℕ
-      i = first shared-test (length (numbers one))
-
-      by : (b : Bool) → ltb i (length (numbers one)) ≡ b → refuseIf b 11 (getD (numbers one) i 0) ≡ Refuses n p
-          → (n ≡ 11) × InBoth one other p × ((x : ℕ) → x < p → InBoth one other x → ⊥)
-      by true t e =
-          let q : i < length (numbers one) = ltb-true i (length (numbers one)) t in
-          let l : i < entryCount one = omega (arith, long) in
-          let f : p ≡ numberAt 4 (entryAt one i) 0 = refuses-place e ∙ place-at i l in (
-            refuses-number e,
-            rw f (both-at i l (first-hits shared-test (length (numbers one)) q)),
-            λ x m r. clash (at-both x r) (first-misses shared-test (length (numbers one)) (r .0 .0) (index-lt (r .0 .0) i (r .0 .1) l (rw (← f, r .0 .2) m))),
-          )
-      by false t e = absurd (never e)
-
-      back : (n ≡ 11) × InBoth one other p × ((x : ℕ) → x < p → InBoth one other x → ⊥) → refuseIf (ltb i (length (numbers one))) 11 (getD (numbers one) i 0) ≡ Refuses n p
-      back r =
-          let k = r .1 .0 .0 in
-          let l : k < entryCount one = r .1 .0 .1 in
-          let q : k < length (numbers one) = omega (arith, long) in
-          let f : first shared-test (length (numbers one)) ≡ k =
-          first-is shared-test (length (numbers one)) k q
-          (λ j m. not-both (shared-test j) (λ t. r .2 (numberAt 4 (entryAt one j) 0) (rw (r .1 .0 .2) at (number-lt j k m l)) (both-at j (omega arith) t)))
-          (at-both p (r .1)) in
-          rw (f, lt-ltb k (length (numbers one)) q) (refuses-both (r .0) (sym (r .1 .0 .2) ∙ sym (place-at k l)))
-
-  pub passed-shared : sharedTest one other ≡ Passes → (x : ℕ) → InBoth one other x → ⊥
-  unfolding sharedTest shared-test numbers
-  passed-shared e x r = by (ltb (first shared-test (length (numbers one))) (length (numbers one))) refl e
-    where
-      by : (b : Bool) → ltb (first shared-test (length (numbers one))) (length (numbers one)) ≡ b
-          → refuseIf b 11 (getD (numbers one) (first shared-test (length (numbers one))) 0) ≡ Passes → ⊥
-      by true t e = never (sym e)
-      by false t e =
-          let l : r .0 .0 < entryCount one = r .0 .1 in
-          let m : length (numbers one) ≤ first shared-test (length (numbers one)) = ltb-false _ _ t in
-          clash (at-both x r) (first-misses shared-test (length (numbers one)) (r .0 .0) (omega (arith, long)))
-
-  -- the entries of both make a report
-  entries-apart : ((x : ℕ) → InBoth one other x → ⊥) → Each (λ x. Each (λ z. entryNumber x ≢ entryNumber z) (entriesOf other)) (entriesOf one)
-  entries-apart a =
-      at-each (λ x. Each (λ z. entryNumber x ≢ entryNumber z) (entriesOf other)) (entriesOf one) noEntry
-      (λ i l. at-each (λ z. entryNumber (getD (entriesOf one) i noEntry) ≢ entryNumber z) (entriesOf other) noEntry
-      (λ j m e.
-      let p : i < entryCount one = rw (counted one h w) at l in
-      let q : j < entryCount other = rw (counted other g v) at m in
-      a (numberAt 4 (entryAt one i) 0) ((i, p, refl), (j, q, sym (number-at other g v j q) ∙ sym e ∙ number-at one h w i p))))
-
--- entries of two lists that make reports, apart and not too many, make a report
-pub both-make : {y z : ℕ} (xs zs : List Entry) → Reportable y xs → Reportable z zs → Each (λ x. Each (λ z. entryNumber x ≢ entryNumber z) zs) xs
-    → length xs + length zs ≤ mostSources → Reportable y (inOrder (xs ++ zs))
-unfolding inOrder
-both-make xs zs v w a l =
-    record {
-      inRange = v .inRange;
-      count = rw (length-sortedBy entryNumber (xs ++ zs), length-append) l;
-      order =
-          sorted-ascending entryNumber 0 (xs ++ zs)
-          (each-append (λ e. 0 < entryNumber e) xs zs (ascending-each entryNumber 0 xs (v .order)) (ascending-each entryNumber 0 zs (w .order)))
-          (distinct-append entryNumber xs zs (ascending-distinct entryNumber 0 xs (v .order)) (ascending-distinct entryNumber 0 zs (w .order)) a);
-      each = sorted-each entryNumber Entered (xs ++ zs) (each-append Entered xs zs (v .each) (w .each));
-    }
-
--- 12
-pub count-decides : (one other : List ℕ) → Decides (countTest one other) (at 12 (entryCount one + entryCount other) (mostSources < entryCount one + entryCount other))
-count-decides one other =
-    let n = entryCount one + entryCount other in
-    decide-if (ltb mostSources n) 12 n (mostSources < n) (ltb-true mostSources n) (λ t l. clash (lt-ltb mostSources n l) t)
-
-nowhere-at : {number place : ℕ} {C : Type 0} → Nowhere (at number place C) → C → ⊥
-nowhere-at {number} {place} h c = h number place (refl, refl, c)
+use Rattle.demands.specs.Exactly.{Row, at, FirstOf, Exactly}
+use Rattle.demands.specs.Refusals.{NoReport, combinationRows, removalRows, checkRows, textLength, textRows}
+use Rattle.demands.proofs.Lists.{not-both}
+use Rattle.demands.proofs.Order.{ascending-distinct}
+use Rattle.demands.proofs.Exactly.{Decides, DecideAll, each-passes, passes-nowhere, exactly, exactly-written, zero-passes, answers, answers-verdict, Numbered, room-decides}
+use Rattle.demands.proofs.Reports.{length-report}
+use Rattle.demands.proofs.ReportTests.{form-decides, passed-form, year-decides, made-of, counted, has, absent-decides, shared-decides, passed-shared, entries-apart, both-make, count-decides, nowhere-at}
 
 module _ (one other : List ℕ) (h : Bytes one) (g : Bytes other) where
   pub both-reportable : formTest one 1 ≡ Passes → formTest other 2 ≡ Passes → sharedTest one other ≡ Passes → countTest one other ≡ Passes

@@ -9,12 +9,8 @@ use Rattle.basis.specs.Lists.{joined, sortedBy}
 use Rattle.basis.specs.Answers.{Outcome}
 use Rattle.demands.specs.Valid.{Each, Distinct}
 use Rattle.demands.specs.Trees.{Tree, report, combine, leaves, wrote, Accepted, result, EachAccepted, entries, Room}
+use Rattle.demands.proofs.Lists.{each-split}
 use Rattle.demands.proofs.Order.{each-perm, distinct-perm, sorted-perm}
-
--- lists that are parts of lists
-pub each-split : {A : Type 0} (P : A → Type 0) (xs ys : List A) → Each P (xs ++ ys) → Each P xs × Each P ys
-each-split P [] ys h = (tt, h)
-each-split P (x ∷ xs) ys h = let r = each-split P xs ys (h .1) in ((h .0, r .0), r .1)
 
 pub distinct-split : {A : Type 0} (key : A → ℕ) (xs ys : List A) → Distinct key (xs ++ ys) → Distinct key xs × Distinct key ys
 distinct-split key [] ys h = (tt, h)
