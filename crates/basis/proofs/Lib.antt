@@ -2,3 +2,4 @@ pub mod Bytes
 pub mod Lists
 pub mod First
 pub mod Answers
+pub mod Tables

@@ -8,7 +8,9 @@ use borrow.Author.Tests.{ltb-true, ltb-false, lt-ltb, le-ltb}
 use lib.Dec.{ltb}
 use Rattle.meaning.specs.Register.{mostLines}
 use Rattle.exact.specs.declared.Amount.{Amount}
-use Rattle.exact.specs.Amounts.{gram, value, nothing, mostQuantity, mostContent, mostFactor, Ranged, OfLine, Room, Added, Subtracted}
+use Rattle.meaning.specs.Methods.{largestContent, mostQuantity}
+use Rattle.meaning.specs.Masses.{mostFactor}
+use Rattle.exact.specs.Amounts.{gram, value, nothing, Ranged, OfLine, Room, Added, Subtracted}
 
 -- two comparisons that hold and fail together are one
 ltb-same : (a b c d : ℕ) → (a < b → c < d) → (b ≤ a → d ≤ c) → ltb a b ≡ ltb c d
@@ -47,7 +49,7 @@ pub room-left : {lines : ℕ} {a b s : Amount} → Room lines a → Subtracted a
 room-left r s = record { part-fits = s .part-fits; whole-fits = omega (arith, r .whole-fits, s .whole-fits) }
 
 -- what the largest register comes to, each of its lines with the largest numbers, stays in 64 bits, rounded too
-pub largest-register : (a : Amount) → a .part < gram → value a ≤ mostLines * (mostQuantity * mostContent * mostFactor) → Room 0 a
+pub largest-register : (a : Amount) → a .part < gram → value a ≤ mostLines * (mostQuantity * largestContent * mostFactor) → Room 0 a
 unfolding value
 largest-register a p e = record { part-fits = p; whole-fits = omega arith }
 

@@ -1,4 +1,3 @@
-pub mod Tables
 pub mod Scales
 pub mod Amounts
 pub mod Equivalents

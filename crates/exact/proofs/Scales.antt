@@ -8,9 +8,9 @@ use borrow.Author.Tests.{leb-true, eqb-true}
 use lib.Dec.{eqb, leb, ltb}
 use lib.ListN.{getD}
 use Rattle.meaning.specs.declared.Decoded.{Decoded}
-use Rattle.meaning.specs.Masses.{divisors, carbonDioxide, gasCount, warming, added, taken, belowZero, rounded, mass}
-use Rattle.exact.specs.Amounts.{gram, scales, scale, mostFactor, mostFactors}
-use Rattle.exact.proofs.Tables.{everywhere-at}
+use Rattle.meaning.specs.Masses.{divisors, carbonDioxide, gasCount, warming, added, taken, belowZero, rounded, mass, mostFactor}
+use Rattle.exact.specs.Amounts.{gram, scales, scale, mostFactors}
+use Rattle.basis.proofs.Tables.{everywhere-at}
 
 pub rounded-scaled : (n d s : ℕ) → 0 < s → rounded (n * s) (d * s) ≡ rounded n d
 unfolding rounded

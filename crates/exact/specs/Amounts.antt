@@ -3,9 +3,8 @@ use mathlib.Core.List.{List, [], _∷_, map}
 use mathlib.Core.Path.{_≡_}
 use Prim.Native.Nat.{ℕ, _+_, _*_, _-_, _/_, _^_, _≤_, _<_}
 use lib.ListN.{getD}
-use Rattle.meaning.specs.Methods
-use Rattle.meaning.specs.Methods.{whole}
-use Rattle.meaning.specs.Masses.{divisors, co2OfCarbon}
+use Rattle.meaning.specs.Methods.{whole, largestContent, mostQuantity}
+use Rattle.meaning.specs.Masses.{divisors, co2OfCarbon, mostFactor}
 use Rattle.exact.specs.declared.Amount.{Amount}
 
 -- the ten-billionths of a gram: "For CO2, grams are N / 10^10"
@@ -26,31 +25,19 @@ scales = map (λ d. gram / d) divisors
 abbrev pub scale : ℕ → ℕ
 scale gas = getD scales gas 0
 
--- "Q is 0 to 10,000,000,000"
-abbrev pub mostQuantity : ℕ
-mostQuantity = 10000000000
-
--- "at most 1,000,000 where the unit is tonne, else at most 99,999,999": the larger, of unit 2. The nitric acid has its f for a content.
-abbrev pub mostContent : ℕ
-mostContent = Methods.mostContent 2
-
 -- what Q and the content are multiplied by at most, by gas: B 3664 for CO2, B for CH4, 1 for N2O
 abbrev pub mostFactors : List ℕ
 mostFactors = co2OfCarbon whole ∷ whole ∷ 1 ∷ []
 
--- the largest of any gas, in ten-billionths of a gram
-abbrev pub mostFactor : ℕ
-mostFactor = co2OfCarbon whole
-
--- the numbers of a line whose product it adds
+-- the numbers of a line whose product it adds; the nitric acid has its f for a content
 pub record Ranged (q content factor : ℕ) : Type 0 where
   pub quantity-fits : q ≤ mostQuantity
-  pub content-fits : content ≤ mostContent
+  pub content-fits : content ≤ largestContent
   pub factor-fits : factor ≤ mostFactor
 
 -- the grams that a line adds at most, for Q at most the ten-billionths of a gram
 abbrev pub perLine : ℕ
-perLine = mostContent * mostFactor
+perLine = largestContent * mostFactor
 
 -- an amount that is a line's n
 pub record OfLine (n : ℕ) (a : Amount) : Type 0 where

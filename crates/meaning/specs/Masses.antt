@@ -38,6 +38,10 @@ divisors = 10 ^ 10 ∷ 10 ^ 7 ∷ 10 ^ 4 ∷ []
 abbrev pub co2OfCarbon : ℕ → ℕ
 co2OfCarbon carbon = carbon * 3664
 
+-- what a line's Q and content are multiplied by at most: the whole of its share, as CO2
+abbrev pub mostFactor : ℕ
+mostFactor = co2OfCarbon whole
+
 -- what a line adds to, or takes from, the exact sum of one gas
 pub record Contribution : Type 0 where
   pub gas : ℕ

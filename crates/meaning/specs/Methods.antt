@@ -28,12 +28,19 @@ abbrev pub contentOf : RawLine → ℕ
 contentOf l = l .a
 
 -- "A is in millionths: at most 1,000,000 where the unit is tonne, else at most 99,999,999"
-abbrev pub mostContent : ℕ → ℕ
-mostContent unit = cond (eqb unit 1) 1000000 99999999
+abbrev pub largestContent : ℕ
+largestContent = 99999999
 
--- what every line keeps: "Q is 0 to 10,000,000,000", and the ranges of A and B
+abbrev pub mostContent : ℕ → ℕ
+mostContent unit = cond (eqb unit 1) 1000000 largestContent
+
+-- "Q is 0 to 10,000,000,000 thousandths of the unit"
+abbrev pub mostQuantity : ℕ
+mostQuantity = 10000000000
+
+-- what every line keeps: the ranges of Q, A and B
 abbrev pub inRange : RawLine → Bool
-inRange l = leb (l .q) 10000000000 && leb (contentOf l) (mostContent (l .unit)) && leb (l .b) whole
+inRange l = leb (l .q) mostQuantity && leb (contentOf l) (mostContent (l .unit)) && leb (l .b) whole
 
 -- "The carbonate factors k, in thousandths, are CaCO3 440, MgCO3 522, CaMg(CO3)2 477, FeCO3 380, codes 1 to 4": source 001, Table 5, which its
 -- text calls table 3. No carbonate has code 0.

@@ -1,35 +1,28 @@
 -- Bounds of the tables, of a line in its ranges, and of a product. Assumes nothing.
 use mathlib.Core.Bool.{Bool, true, false, cond, _&&_}
-use mathlib.Core.List.{List, [], _∷_}
+use mathlib.Core.List.{List}
 use mathlib.Core.Path.{_≡_, refl, sym, ap}
-use Prim.Native.Nat.{ℕ, zero, suc, _*_, _≤_, _<_}
-use native.Mathlib.Nat.{le-of-suc-le-suc, mul-assoc, mul-le-mul}
+use Prim.Native.Nat.{ℕ, _*_, _≤_, _<_}
+use native.Mathlib.Nat.{mul-assoc, mul-le-mul}
 use native.Mathlib.Omega.{arith}
 use lib.Dec.{T, leb, eqb}
 use lib.ListN.{length, getD, List·getD-eq-default}
 use mir.Facts.{and-yes, leb-yes}
 use mir.Syntax.{w64}
 use mir.Val.{Fits}
+use Rattle.basis.proofs.Tables.{everywhere, everywhere-at}
 use Rattle.meaning.specs.declared.RawLine.{RawLine}
-use Rattle.meaning.specs.Methods.{within, whole, mostContent, inRange}
-use Rattle.meaning.specs.Masses.{carbonDioxide}
-use Rattle.methods.specs.Ranges.{Entry, InRanges, mostQuantity, mostA, carbonFactor}
-use Rattle.methods.specs.Terms.{Weighs, contributed, mostFactor}
+use Rattle.meaning.specs.Methods.{within, whole, largestContent, mostContent, mostQuantity, inRange}
+use Rattle.meaning.specs.Masses.{carbonDioxide, mostFactor}
+use Rattle.methods.specs.Ranges.{Entry, InRanges, carbonFactor}
+use Rattle.methods.specs.Terms.{Weighs, contributed}
 
 -- each entry of a table is within two bounds: one computed test
-abbrev allWithin : ℕ → ℕ → List ℕ → Bool
-allWithin low high [] = true
-allWithin low high (n ∷ ns) = within low high n && allWithin low high ns
-
-pub entry : (table : List ℕ) (low high : ℕ) → T (allWithin low high table) → (at : ℕ) → at < length table → Entry table low high at (getD table at 0)
-entry [] low high t at h = omega arith
-entry (n ∷ ns) low high t zero h =
-    let w : T (within low high n) = and-yes (within low high n) (allWithin low high ns) t .0 in
-    let b : (low ≤ n) × (n ≤ high) = (leb-yes (and-yes (leb low n) (leb n high) w .0), leb-yes (and-yes (leb low n) (leb n high) w .1)) in
-    record { is = refl; above = b .0; below = b .1 }
-entry (n ∷ ns) low high t (suc at) h =
-    let e = entry ns low high (and-yes (within low high n) (allWithin low high ns) t .1) at (le-of-suc-le-suc h) in
-    record { is = refl; above = e .above; below = e .below }
+pub entry : (table : List ℕ) (low high : ℕ) → everywhere (λ i n. within low high n) table ≡ true → (at : ℕ) → at < length table → Entry table low high at (getD table at 0)
+entry table low high e at h =
+    let n = getD table at 0 in
+    let w : T (within low high n) = rw (everywhere-at (λ i n. within low high n) table 0 e at h) tt in
+    record { is = refl; above = leb-yes (and-yes (leb low n) (leb n high) w .0); below = leb-yes (and-yes (leb low n) (leb n high) w .1) }
 
 -- past its end a table has nothing
 pub no-entry : (table : List ℕ) (high at : ℕ) → length table ≤ at → Entry table 0 high at 0
@@ -44,12 +37,12 @@ ranged l e h =
     let a : l .a ≤ mostContent (l .unit) = leb-yes (v .1) in
     record { quantity = leb-yes (v .0); content = omega (arith, largest (eqb (l .unit) 1)); share = leb-yes (u .1) }
   where
-    largest : (tonnes : Bool) → cond tonnes 1000000 mostA ≤ mostA
+    largest : (tonnes : Bool) → cond tonnes 1000000 largestContent ≤ largestContent
     largest true = omega arith
     largest false = omega arith
 
 -- a share of a content, by a factor, is one product
-module _ {content share factor : ℕ} (h : (content ≤ mostA) × (share ≤ whole) × (factor ≤ carbonFactor)) where
+module _ {content share factor : ℕ} (h : (content ≤ largestContent) × (share ≤ whole) × (factor ≤ carbonFactor)) where
   share-fits : share * factor ≤ mostFactor
   share-fits = mul-le-mul (h .1) (h .2)
 

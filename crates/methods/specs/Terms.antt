@@ -3,21 +3,16 @@ use mathlib.Core.Bool.{Bool, true, false}
 use mathlib.Core.Path.{_≡_}
 use Prim.Native.Nat.{ℕ, _*_, _≤_, _<_}
 use Rattle.methods.specs.declared.Term.{Term}
-use Rattle.meaning.specs.Methods.{whole}
-use Rattle.meaning.specs.Masses.{Contribution, adding, taking, co2OfCarbon, gasCount}
-use Rattle.methods.specs.Ranges.{mostA}
+use Rattle.meaning.specs.Methods.{largestContent}
+use Rattle.meaning.specs.Masses.{Contribution, adding, taking, mostFactor, gasCount}
 
 abbrev pub contributed : Bool → ℕ → ℕ → Contribution
 contributed false gas n = adding gas n
 contributed true gas n = taking gas n
 
--- the largest factor: the whole share, and carbon as CO2
-abbrev pub mostFactor : ℕ
-mostFactor = co2OfCarbon whole
-
 -- a term says what a contribution is for every quantity, and its numbers are in their ranges
 pub record Weighs (of : ℕ → Contribution) (t : Term) : Type 0 where
   pub sum : (q : ℕ) → of q ≡ contributed (t .takes) (t .gas) (q * t .content * t .factor)
   pub gas : t .gas < gasCount
-  pub content : t .content ≤ mostA
+  pub content : t .content ≤ largestContent
   pub factor : t .factor ≤ mostFactor

@@ -2,10 +2,10 @@
 ghost use mathlib.Core.Bool.{false};
 ghost use mathlib.Core.Path.{_≡_};
 ghost use Prim.Native.Nat.{_*_, _≤_, _<_};
-ghost use Rattle.meaning.specs.Methods.{whole, carbonates, acids, balanced, mostContent, inRange, given, fuel, flare, metals, petrochemical, cement, nitricAcid, byMethod, decoded};
-ghost use Rattle.meaning.specs.Masses.{warming, gasCount, carbonDioxide, co2OfCarbon, contribution};
-ghost use Rattle.methods.specs.Ranges.{Entry, InRanges, KindFits, LineFits, mostA, carbonFactor, mostAcid};
-ghost use Rattle.methods.specs.Terms.{Weighs, contributed, mostFactor};
+ghost use Rattle.meaning.specs.Methods.{whole, largestContent, carbonates, acids, balanced, mostContent, inRange, given, fuel, flare, metals, petrochemical, cement, nitricAcid, byMethod, decoded};
+ghost use Rattle.meaning.specs.Masses.{gasCount, carbonDioxide, co2OfCarbon, mostFactor, contribution};
+ghost use Rattle.methods.specs.Ranges.{Entry, InRanges, KindFits, LineFits, carbonFactor, mostAcid};
+ghost use Rattle.methods.specs.Terms.{Weighs, contributed};
 use meaning::Decoded;
 use meaning::Kind;
 use meaning::Line;
@@ -13,7 +13,7 @@ use meaning::RawLine;
 
 // A kind as one product: a line of quantity q adds q * content * factor to the sum of its gas, or takes it from there.
 pub struct Term {
-    pub gas: u64,
+    pub gas: usize,
     pub takes: bool,
     pub content: u64,
     pub factor: u64,
@@ -26,19 +26,16 @@ const WHOLE: u64 = 10000;
 const CO2_OF_CARBON: u64 = 3664;
 
 // The gases, by their places in the report.
-const CARBON_DIOXIDE: u64 = 0;
+const CARBON_DIOXIDE: usize = 0;
 
-const METHANE: u64 = 1;
+const METHANE: usize = 1;
 
-const NITROUS_OXIDE: u64 = 2;
+const NITROUS_OXIDE: usize = 2;
 
-// The carbonates' factors by code, the acids' by parameter, and the gases' warming potentials. No carbonate has code 0 and no plant
-// parameter 0.
+// The carbonates' factors by code, and the acids' by parameter. No carbonate has code 0 and no plant parameter 0.
 const CARBONATES: [u64; 5] = [0, 440, 522, 477, 380];
 
 const ACIDS: [u64; 7] = [0, 20000, 25000, 50000, 75000, 90000, 5];
-
-const WARMING: [u64; 3] = [1, 25, 298];
 
 pub fn carbonate_factor(code: u64) -> u64
     ensures { λ r. ⌜ Entry carbonates 0 carbonFactor code r ⌝ }
@@ -56,13 +53,6 @@ pub fn acid_factor(parameter: u64) -> u64
         return ACIDS[parameter as usize];
     }
     0
-}
-
-pub fn warming_of(gas: u64) -> u64
-    requires { ⌜ gas < gasCount ⌝ }
-    ensures { λ r. ⌜ Entry warming 1 298 gas r ⌝ }
-{
-    WARMING[gas as usize]
 }
 
 // A line of the kind where the test holds, and else what the later kinds make of it.
@@ -246,8 +236,8 @@ pub fn decode(method: u64, parameter: u64, line: RawLine) -> Decoded
 }
 
 // A gas that is added: a content times a factor.
-fn gas_term(gas: u64, content: u64, factor: u64) -> Term
-    requires { ⌜ (gas < gasCount) × (content ≤ mostA) × (factor ≤ mostFactor) ⌝ }
+fn gas_term(gas: usize, content: u64, factor: u64) -> Term
+    requires { ⌜ (gas < gasCount) × (content ≤ largestContent) × (factor ≤ mostFactor) ⌝ }
     ensures { λ r. ⌜ Weighs (λ q. contributed false gas (q * content * factor)) r ⌝ }
 {
     Term {
@@ -260,7 +250,7 @@ fn gas_term(gas: u64, content: u64, factor: u64) -> Term
 
 // CO2 of a content, of the share of it that counts, and of the factor of CO2.
 fn co2_term(takes: bool, content: u64, share: u64, factor: u64) -> Term
-    requires { ⌜ (content ≤ mostA) × (share ≤ whole) × (factor ≤ carbonFactor) ⌝ }
+    requires { ⌜ (content ≤ largestContent) × (share ≤ whole) × (factor ≤ carbonFactor) ⌝ }
     ensures { λ r. ⌜ Weighs (λ q. contributed takes carbonDioxide (q * content * share * factor)) r ⌝ }
 {
     Term {
@@ -273,7 +263,7 @@ fn co2_term(takes: bool, content: u64, share: u64, factor: u64) -> Term
 
 // Carbon becomes CO2 here, and nowhere else.
 fn carbon_term(takes: bool, carbon: u64, share: u64) -> Term
-    requires { ⌜ (carbon ≤ mostA) × (share ≤ whole) ⌝ }
+    requires { ⌜ (carbon ≤ largestContent) × (share ≤ whole) ⌝ }
     ensures { λ r. ⌜ Weighs (λ q. contributed takes carbonDioxide (co2OfCarbon (q * carbon * share))) r ⌝ }
 {
     co2_term(takes, carbon, share, CO2_OF_CARBON)

@@ -1,3 +1,4 @@
+use mathlib.Core.Path.{refl}
 use borrow.Author.Needs.{needs}
 use Rattle.meaning.specs.Methods.{acids}
 use Rattle.methods.specs.Ranges.{mostAcid}
@@ -11,5 +12,5 @@ acid-factor-spec =
     (tie.spec
     (search needs)
     (search needs)
-    (λ c. search (needs, entry acids 0 mostAcid tt))
+    (λ c. search (needs, entry acids 0 mostAcid refl))
     (λ c. search (needs, no-entry acids mostAcid)))

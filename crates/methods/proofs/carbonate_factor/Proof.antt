@@ -1,3 +1,4 @@
+use mathlib.Core.Path.{refl}
 use borrow.Author.Needs.{needs}
 use Rattle.meaning.specs.Methods.{carbonates}
 use Rattle.methods.specs.Ranges.{carbonFactor}
@@ -11,5 +12,5 @@ carbonate-factor-spec =
     (tie.spec
     (search needs)
     (search needs)
-    (λ c. search (needs, entry carbonates 0 carbonFactor tt))
+    (λ c. search (needs, entry carbonates 0 carbonFactor refl))
     (λ c. search (needs, no-entry carbonates carbonFactor)))
