@@ -19,7 +19,7 @@ use Rattle.basis.proofs.Bytes.{length-splice}
 use Rattle.meaning.specs.Calls.{roomTest, written}
 use Rattle.demands.specs.Valid.{Each}
 use Rattle.demands.specs.Demand1.{Among, FromTable, Answers}
-use Rattle.demands.specs.Exactly.{Row, Nowhere, at, atLeast, FirstOf, Exactly}
+use Rattle.demands.specs.Exactly.{Row, Nowhere, at, atSmallest, FirstOf, Exactly}
 
 -- a test refuses exactly where its row does
 abbrev pub Decides : Verdict → Row → Type 0
@@ -99,11 +99,11 @@ decide-if false number place C holds fails n p = (λ e. absurd (never e), λ r. 
 pub decide-first : (test : ℕ → Bool) (count : ℕ) (number : ℕ → ℕ) (wrong : ℕ → ℕ → Type 0)
     → ((i : ℕ) → i < count → test i ≡ true → wrong (number i) i)
     → ((i n : ℕ) → i < count → wrong n i → (test i ≡ true) × (n ≡ number i))
-    → Decides (refuseIf (ltb (first test count) count) (number (first test count)) (first test count)) (atLeast count wrong)
+    → Decides (refuseIf (ltb (first test count) count) (number (first test count)) (first test count)) (atSmallest count wrong)
 decide-first test count number wrong right only n p =
     (by (ltb (first test count) count) refl, back)
   where
-    by : (b : Bool) → ltb (first test count) count ≡ b → refuseIf b (number (first test count)) (first test count) ≡ Refuses n p → atLeast count wrong n p
+    by : (b : Bool) → ltb (first test count) count ≡ b → refuseIf b (number (first test count)) (first test count) ≡ Refuses n p → atSmallest count wrong n p
     by true t e =
         let f : p ≡ first test count = refuses-place e in
         let m : n ≡ number (first test count) = refuses-number e in
@@ -115,7 +115,7 @@ decide-first test count number wrong right only n p =
         )
     by false t e = absurd (never e)
 
-    back : atLeast count wrong n p → refuseIf (ltb (first test count) count) (number (first test count)) (first test count) ≡ Refuses n p
+    back : atSmallest count wrong n p → refuseIf (ltb (first test count) count) (number (first test count)) (first test count) ≡ Refuses n p
     back r =
         let h = only p n (r .0) (r .1) in
         let f : first test count ≡ p = first-is test count p (r .0) (λ k q. miss (test k) refl (λ t. r .2 k q (number k) (right k (omega (arith, r .0)) t))) (h .0) in

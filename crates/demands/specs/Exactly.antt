@@ -17,8 +17,8 @@ abbrev pub at : ℕ → ℕ → Type 0 → Row
 at number place condition n p = (n ≡ number) × (p ≡ place) × condition
 
 -- at an index below a count that is wrong, none before it being wrong; the number may go by what is wrong
-abbrev pub atLeast : ℕ → (ℕ → ℕ → Type 0) → Row
-atLeast count wrong n p = (p < count) × wrong n p × ((k : ℕ) → k < p → (m : ℕ) → wrong m k → ⊥)
+abbrev pub atSmallest : ℕ → (ℕ → ℕ → Type 0) → Row
+atSmallest count wrong n p = (p < count) × wrong n p × ((k : ℕ) → k < p → (m : ℕ) → wrong m k → ⊥)
 
 abbrev pub numbered : ℕ → (ℕ → Type 0) → ℕ → ℕ → Type 0
 numbered number wrong n i = (n ≡ number) × wrong i
