@@ -10,26 +10,23 @@
 use std::hint::black_box;
 use std::time::Instant;
 
-/// A slice as Rattle hands it over: its address and its length.
-#[repr(C)]
-struct Lent {
-    at: *mut u64,
-    len: usize,
-}
-
 #[link(name = "order", kind = "static")]
 extern "C" {
-    fn order_sort(keys: Lent, spare: Lent, count: usize);
-}
-
-fn lend(keys: &mut [u64]) -> Lent {
-    Lent { at: keys.as_mut_ptr(), len: keys.len() }
+    fn order_sort(keys: *mut u64, keys_len: usize, spare: *mut u64, spare_len: usize, count: usize);
 }
 
 fn proved_sort(keys: &mut [u64], spare: &mut [u64], count: usize) {
     assert!(count <= keys.len() && count <= spare.len());
     // SAFETY: both slices are lent for the call, apart from each other, and hold at least `count` keys.
-    unsafe { order_sort(lend(keys), lend(spare), count) }
+    unsafe {
+        order_sort(
+            keys.as_mut_ptr(),
+            keys.len(),
+            spare.as_mut_ptr(),
+            spare.len(),
+            count,
+        )
+    }
 }
 
 /// Numbers without a pattern, the same in every run (xorshift).
@@ -85,14 +82,19 @@ fn nanoseconds(inputs: &[Vec<u64>], keys: &mut [u64], mut sort: impl FnMut(&mut 
 }
 
 fn measure(numbers: &mut Numbers, kind: &str, count: usize) {
-    let inputs: Vec<Vec<u64>> = (0..1 << 20 >> count.ilog2()).take(4096).map(|_| numbers.keys(kind, count)).collect();
+    let inputs: Vec<Vec<u64>> = (0..2048).map(|_| numbers.keys(kind, count)).collect();
     let (mut keys, mut spare) = (vec![0; count], vec![0; count]);
     let (mut proved, mut rust) = (f64::MAX, f64::MAX);
     for _ in 0..40 {
-        proved = proved.min(nanoseconds(&inputs, &mut keys, |keys| proved_sort(keys, &mut spare, count)));
+        proved = proved.min(nanoseconds(&inputs, &mut keys, |keys| {
+            proved_sort(keys, &mut spare, count)
+        }));
         rust = rust.min(nanoseconds(&inputs, &mut keys, <[u64]>::sort_unstable));
     }
-    println!("{kind:>12} {count:4}: proved {proved:7.1} ns, sort_unstable {rust:7.1} ns, ratio {:.2}", proved / rust);
+    println!(
+        "{kind:>12} {count:4}: proved {proved:7.1} ns, sort_unstable {rust:7.1} ns, ratio {:.2}",
+        proved / rust
+    );
 }
 
 fn main() {
