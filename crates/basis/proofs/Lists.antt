@@ -34,7 +34,7 @@ module _ {A : Type 0} (key : A → ℕ) where
   sortedBy-perm [] = List·Permᴰ·nil
   sortedBy-perm (x ∷ xs) = List·Permᴰ·trans (insertBy-perm x (sortedBy key xs)) (List·Permᴰ·cons refl (sortedBy-perm xs))
 
-  length-insertBy : (x : A) (xs : List A) → length (insertBy key x xs) ≡ suc (length xs)
+  pub length-insertBy : (x : A) (xs : List A) → length (insertBy key x xs) ≡ suc (length xs)
   unfolding insertBy
   length-insertBy x [] = refl
   length-insertBy x (y ∷ ys) = by (leb (key x) (key y)) (length-insertBy x ys)
