@@ -15,7 +15,7 @@ use Rattle.basis.specs.Answers.{firstRefusal, settled}
 use Rattle.basis.proofs.Answers.{never}
 use Rattle.basis.proofs.Lists.{sortedBy-perm}
 use Rattle.meaning.specs.Report.{Entry, inOrder, reportBytes, reportYear, entryCount, entriesOf}
-use Rattle.meaning.specs.Calls.{written, roomTest, formTest, yearTest, sharedTest, countTest, bothEntries, combined}
+use Rattle.meaning.specs.Calls.{written, roomTest, bothEntries, combined, combinationTests, combinedReport}
 use Rattle.demands.specs.Valid.{entryNumber, Reportable}
 use Rattle.demands.specs.Exactly.{Row, FirstOf}
 use Rattle.demands.specs.Refusals.{NoReport, combinationRows}
@@ -83,8 +83,7 @@ unfolding bothEntries inOrder
 both-dealt one other = sortedBy-perm entryNumber (entriesOf one ++ entriesOf other)
 
 abbrev combining : List ℕ → List ℕ → List ℕ → List Verdict
-combining one other buffer =
-    formTest one 1 ∷ formTest other 2 ∷ yearTest one other ∷ sharedTest one other ∷ countTest one other ∷ roomTest (reportBytes (reportYear one) (bothEntries one other)) buffer ∷ []
+combining one other buffer = combinationTests one other ++ (roomTest (combinedReport one other) buffer ∷ [])
 
 -- what an accepted combination is made of
 pub record Together (one other : List ℕ) : Type 0 where
@@ -94,30 +93,38 @@ pub record Together (one other : List ℕ) : Type 0 where
 together : (one other buffer : List ℕ) → Bytes one → Bytes other → firstRefusal (combining one other buffer) ≡ Passes → Together one other
 together one other buffer h g e =
     let p = each-passes (combining one other buffer) e in
+    let same = eqb (reportYear one) (reportYear other) in
     record {
       makes = both-reportable one other h g (p .0) (p .1 .0) (p .1 .1 .1 .0) (p .1 .1 .1 .1 .0) .0;
-      sameYear = eqb-true (reportYear one) (reportYear other) (not-false (eqb (reportYear one) (reportYear other)) (passed-if (not (eqb (reportYear one) (reportYear other))) 10 0 (p .1 .1 .0)));
+      sameYear = eqb-true (reportYear one) (reportYear other) (not-false same (passed-if (not same) 10 0 (p .1 .1 .0)));
     }
 
-commutes : (one other buffer : List ℕ) → GoodReport one → GoodReport other → combined one other buffer ≡ combined other one buffer
-unfolding combined written settled
-commutes one other buffer g h = by (firstRefusal (combining one other buffer)) refl (firstRefusal (combining other one buffer)) refl same
-  where
-    same : firstRefusal (combining one other buffer) ≡ firstRefusal (combining other one buffer)
-    same =
-        same-verdict (firstRefusal (combining one other buffer)) (firstRefusal (combining other one buffer)) (combinationRows one other (length buffer)) (combinationRows other one (length buffer))
-        (first-decides (combining one other buffer) (combinationRows one other (length buffer)) (combination-decides one other (g .bytes) (h .bytes) buffer))
-        (first-decides (combining other one buffer) (combinationRows other one (length buffer)) (combination-decides other one (h .bytes) (g .bytes) buffer))
-        (agree one other g h buffer)
+-- two calls of one verdict that make the same where they accept are one
+same-settled : (v w : Verdict) (made made′ buffer : List ℕ) → v ≡ w → (v ≡ Passes → made ≡ made′) → settled v made buffer ≡ settled w made′ buffer
+unfolding settled
+same-settled Passes w made made′ buffer e m = ap₂ (λ (x : Verdict) (bs : List ℕ). settled x bs buffer) e (m refl)
+same-settled (Refuses n p) w made made′ buffer e m = ap (λ (x : Verdict). settled x made′ buffer) e
 
-    by : (v : Verdict) → firstRefusal (combining one other buffer) ≡ v → (w : Verdict) → firstRefusal (combining other one buffer) ≡ w → firstRefusal (combining one other buffer) ≡ firstRefusal (combining other one buffer)
-        → settled (firstRefusal (combining one other buffer)) (reportBytes (reportYear one) (bothEntries one other)) buffer ≡ settled (firstRefusal (combining other one buffer)) (reportBytes (reportYear other) (bothEntries other one)) buffer
-    by Passes p w q e =
-        let t = together one other buffer (g .bytes) (h .bytes) p in
-        let u = together other one buffer (h .bytes) (g .bytes) (sym e ∙ p) in
-        let d = List·Permᴰ·trans (both-dealt one other) (List·Permᴰ·trans (List·Permᴰ·append-comm (entriesOf one) (entriesOf other)) (Permᴰ·symm (both-dealt other one))) in
-        ap₂ (λ (x : Verdict) (bs : List ℕ). settled x bs buffer) e (ap₂ reportBytes (t .sameYear) (in-order-once (bothEntries one other) (bothEntries other one) (t .makes) (u .makes) d))
-    by (Refuses n k) p w q e = rw (← e, p)
+commutes : (one other buffer : List ℕ) → GoodReport one → GoodReport other → combined one other buffer ≡ combined other one buffer
+unfolding combined written
+commutes one other buffer g h =
+    let v = firstRefusal (combining one other buffer) in
+    let w = firstRefusal (combining other one buffer) in
+    let rows = combinationRows one other (length buffer) in
+    let rows′ = combinationRows other one (length buffer) in
+    let e : v ≡ w =
+    same-verdict v w rows rows′
+    (first-decides (combining one other buffer) rows (combination-decides one other (g .bytes) (h .bytes) buffer))
+    (first-decides (combining other one buffer) rows′ (combination-decides other one (h .bytes) (g .bytes) buffer))
+    (agree one other g h buffer) in
+    same-settled v w (combinedReport one other) (combinedReport other one) buffer e
+    (λ p.
+    let t = together one other buffer (g .bytes) (h .bytes) p in
+    let u = together other one buffer (h .bytes) (g .bytes) (sym e ∙ p) in
+    let d =
+    List·Permᴰ·trans (both-dealt one other)
+    (List·Permᴰ·trans (List·Permᴰ·append-comm (entriesOf one) (entriesOf other)) (Permᴰ·symm (both-dealt other one))) in
+    ap₂ reportBytes (t .sameYear) (in-order-once (bothEntries one other) (bothEntries other one) (t .makes) (u .makes) d))
 
 -- what an accepted combination writes, and reads as
 module _ (one other buffer : List ℕ) (h : Bytes one) (g : Bytes other) (a : Accepted (combined one other buffer)) where
@@ -127,7 +134,7 @@ module _ (one other buffer : List ℕ) (h : Bytes one) (g : Bytes other) (a : Ac
   wrote-is : wrote (combined one other buffer) ≡ reportBytes (reportYear one) (bothEntries one other)
   unfolding combined
   wrote-is =
-      accepted-written (formTest one 1 ∷ formTest other 2 ∷ yearTest one other ∷ sharedTest one other ∷ countTest one other ∷ []) (reportBytes (reportYear one) (bothEntries one other)) buffer
+      accepted-written (combinationTests one other) (combinedReport one other) buffer
       (combination-passed one other h g buffer a) .1
 
   wrote-bytes : Bytes (wrote (combined one other buffer))

@@ -22,7 +22,7 @@ use Rattle.meaning.specs.Methods.{within, listed, isBad}
 use Rattle.meaning.specs.Masses.{gasCount, gases, belowZero, mass, masses, equivalent, limit}
 use Rattle.meaning.specs.Register.{Source, yearOf, sourceCount, mostSources, sourcesAt, sourceLength, sourceEntry, sourceAt, sourcesOf, unsound, decodedLines, registerTests}
 use Rattle.meaning.specs.Report.{entryOf, inOrder, reportBytes, reportLength}
-use Rattle.meaning.specs.Calls.{roomTest, badLine, lineTest, massFault, faultAt, massTest, entriesFor, calculated}
+use Rattle.meaning.specs.Calls.{roomTest, badLine, lineTest, massFault, faultAt, massTest, entriesFor, calculated, calculationTests, calculatedReport}
 use Rattle.meaning.proofs.Laws.{one-entry-each}
 use Rattle.demands.specs.Valid.{Each, Entered, Distinct, entryNumber, Reportable}
 use Rattle.demands.specs.Demand1.{Among, Answers}
@@ -101,7 +101,8 @@ entries-distinct [] h = tt
 entries-distinct (s ∷ ss) h = (each-of (λ n. s .number ≢ n) ss (h .0), entries-distinct ss (h .1))
 
 -- sources that nothing refuses, different in number and not too many, make a report
-pub sources-make : (y : ℕ) (ss : List Source) → (1990 ≤ y) × (y ≤ 2100) → length ss ≤ mostSources → Each Calculable ss → Distinct sourceNumber ss → Reportable y (entriesFor ss)
+pub sources-make : (y : ℕ) (ss : List Source) → (1990 ≤ y) × (y ≤ 2100) → length ss ≤ mostSources → Each Calculable ss → Distinct sourceNumber ss
+    → Reportable y (entriesFor ss)
 unfolding entriesFor inOrder
 sources-make y ss r n c d =
     record {
@@ -196,18 +197,22 @@ module _ (b : List ℕ) (h : Bytes b) where
   made-length p c =
       length-report (yearOf b) (entriesFor (sourcesOf b)) (register-makes p c) ∙ ap reportLength (one-entry-each (sourcesOf b) .1 ∙ length-sources b)
 
-  abbrev pub tests : List Verdict
-  tests = registerTests b ++ (lineTest (sourcesOf b) ∷ massTest (sourcesOf b) ∷ [])
+  -- all its tests, that of the room last; and those that come behind the register's
+  abbrev pub allTests : List ℕ → List Verdict
+  allTests report = calculationTests b ++ (roomTest (calculatedReport b) report ∷ [])
 
-  abbrev pub made : List ℕ
-  made = reportBytes (yearOf b) (entriesFor (sourcesOf b))
+  abbrev later : List ℕ → List Verdict
+  later report = lineTest (sourcesOf b) ∷ massTest (sourcesOf b) ∷ roomTest (calculatedReport b) report ∷ []
 
-  decides : (report : List ℕ) → DecideAll (tests ++ (roomTest made report ∷ [])) (calculationRows b (length report))
+  parted : (report : List ℕ) → allTests report ≡ registerTests b ++ later report
+  parted report = append-assoc (registerTests b) (lineTest (sourcesOf b) ∷ massTest (sourcesOf b) ∷ []) (roomTest (calculatedReport b) report ∷ [])
+
+  decides : (report : List ℕ) → DecideAll (allTests report) (calculationRows b (length report))
   decides report =
-      rw (append-assoc (registerTests b) (lineTest (sourcesOf b) ∷ massTest (sourcesOf b) ∷ []) (roomTest made report ∷ []))
-      (decide-append (registerTests b) (lineTest (sourcesOf b) ∷ massTest (sourcesOf b) ∷ roomTest made report ∷ []) (registerRows b) _ (register-decides b)
+      rw (parted report)
+      (decide-append (registerTests b) (later report) (registerRows b) _ (register-decides b)
       (λ p. let q = passed b p in
-      (line-decides b (q .laid), λ l. (mass-decides b, λ m. (room-decides made report (reportLength (sourceCount b)) (made-length q (calculable q l m)), λ _. tt)))))
+      (line-decides b (q .laid), λ l. (mass-decides b, λ m. (room-decides (calculatedReport b) report (reportLength (sourceCount b)) (made-length q (calculable q l m)), λ _. tt)))))
 
   numbers : (report : List ℕ) → Numbered calculationNumbers (calculationRows b (length report))
   numbers report =
@@ -265,42 +270,42 @@ module _ (b : List ℕ) (h : Bytes b) where
       }
 
   -- tests that all pass: the register passes 1 to 4, and nothing refuses its sources
-  all-passed : (report : List ℕ) → firstRefusal (tests ++ (roomTest made report ∷ [])) ≡ Passes → Passed b × Each Calculable (sourcesOf b)
+  all-passed : (report : List ℕ) → firstRefusal (allTests report) ≡ Passes → Passed b × Each Calculable (sourcesOf b)
   all-passed report e =
-      let f = append-assoc (registerTests b) (lineTest (sourcesOf b) ∷ massTest (sourcesOf b) ∷ []) (roomTest made report ∷ []) in
-      let r = passed-append (registerTests b) (lineTest (sourcesOf b) ∷ massTest (sourcesOf b) ∷ roomTest made report ∷ []) (rw f at e) in
+      let f = parted report in
+      let r = passed-append (registerTests b) (later report) (rw f at e) in
       let q = passed b (r .0) in
-      let t = each-passes (lineTest (sourcesOf b) ∷ massTest (sourcesOf b) ∷ roomTest made report ∷ []) (r .1) in
+      let t = each-passes (later report) (r .1) in
       (q, calculable q (t .0) (t .1 .0))
 
   pub calculation-exactly : (report : List ℕ) → Exactly (calculationRows b (length report)) (reportLength (sourceCount b)) (calculated b report .answer)
   unfolding calculated
   calculation-exactly report =
-      exactly-written tests calculationNumbers (calculationRows b (length report)) made report (reportLength (sourceCount b)) (decides report) (numbers report)
+      exactly-written (calculationTests b) calculationNumbers (calculationRows b (length report)) (calculatedReport b) report (reportLength (sourceCount b)) (decides report) (numbers report)
       (λ e. let r = all-passed report e in made-length (r .0) (r .1))
 
   pub calculation-answers : (report : List ℕ) → Answers calculationNumbers report (calculated b report)
   unfolding calculated
-  calculation-answers report = answers tests calculationNumbers (calculationRows b (length report)) made report (decides report) (numbers report)
+  calculation-answers report = answers (calculationTests b) calculationNumbers (calculationRows b (length report)) (calculatedReport b) report (decides report) (numbers report)
 
-  pub accepted : (report : List ℕ) → calculated b report .answer .number ≡ 0 → Passed b × Each Calculable (sourcesOf b) × (firstRefusal (tests ++ (roomTest made report ∷ [])) ≡ Passes)
+  pub accepted : (report : List ℕ) → calculated b report .answer .number ≡ 0 → Passed b × Each Calculable (sourcesOf b) × (firstRefusal (allTests report) ≡ Passes)
   unfolding calculated
   accepted report e =
-      let p = zero-passes tests calculationNumbers (calculationRows b (length report)) made report (decides report) (numbers report) e in
+      let p = zero-passes (calculationTests b) calculationNumbers (calculationRows b (length report)) (calculatedReport b) report (decides report) (numbers report) e in
       let r = all-passed report p in
       (r .0, r .1, p)
 
   -- and the other way round, with room
-  pub accepting : (report : List ℕ) → Passed b → Each Calculable (sourcesOf b) → reportLength (sourceCount b) ≤ length report → firstRefusal (tests ++ (roomTest made report ∷ [])) ≡ Passes
+  pub accepting : (report : List ℕ) → Passed b → Each Calculable (sourcesOf b) → reportLength (sourceCount b) ≤ length report → firstRefusal (allTests report) ≡ Passes
   accepting report p c o =
-      let f = append-assoc (registerTests b) (lineTest (sourcesOf b) ∷ massTest (sourcesOf b) ∷ []) (roomTest made report ∷ []) in
+      let f = parted report in
       let l = made-length p c in
       rw f
-      (passed-then (registerTests b) (lineTest (sourcesOf b) ∷ massTest (sourcesOf b) ∷ roomTest made report ∷ []) (passing b p)
-      ∙ passes-each (lineTest (sourcesOf b) ∷ massTest (sourcesOf b) ∷ roomTest made report ∷ []) (
+      (passed-then (registerTests b) (later report) (passing b p)
+      ∙ passes-each (later report) (
         good-lines (sourcesOf b) (each-map (λ s h. h .good) (sourcesOf b) c),
         (
           kept-sums (sourcesOf b) (each-map (λ s h. h .kept) (sourcesOf b) c),
-          (if-passed (ltb (length report) (length made)) 8 (length made) (le-ltb (length report) (length made) (omega arith)), tt),
+          (if-passed (ltb (length report) (length (calculatedReport b))) 8 (length (calculatedReport b)) (le-ltb (length report) (length (calculatedReport b)) (omega arith)), tt),
         ),
       ))

@@ -12,16 +12,17 @@ use borrow.Author.Tests.{le-ltb, eq-eqb, eqb-true}
 use Rattle.basis.specs.declared.Verdict.{Verdict}
 use Rattle.basis.specs.declared.Verdict.the-variants.{Passes, Refuses}
 use Rattle.basis.specs.Bytes.{splice}
+use Rattle.basis.specs.Lists.{joined}
 use Rattle.basis.specs.Answers.{firstRefusal, Outcome, settled}
 use Rattle.basis.proofs.Lists.{sortedBy-perm}
 use Rattle.meaning.proofs.Laws.{length-inOrder}
 use Rattle.meaning.specs.Register.{Source, mostSources}
 use Rattle.meaning.specs.Report.{Entry, entryOf, inOrder, reportBytes, reportLength, reportYear, entryCount, wellFormed}
-use Rattle.meaning.specs.Calls.{written, roomTest, formTest, yearTest, sharedTest, countTest, bothEntries, entriesFor, numbered, combined}
+use Rattle.meaning.specs.Calls.{written, roomTest, sharedTest, bothEntries, entriesFor, numbered, combined, combinationTests}
 use Rattle.demands.specs.Valid.{Each, Distinct, entryNumber, Reportable}
 use Rattle.demands.specs.Exactly.{Row, Nowhere}
 use Rattle.demands.specs.Refusals.{InBoth}
-use Rattle.demands.specs.Trees.{wrote, Accepted}
+use Rattle.demands.specs.Trees.{Tree, leaves, wrote, Accepted, result, EachAccepted, Room}
 use Rattle.demands.proofs.Lists.{any-some, each-at, each-split}
 use Rattle.demands.proofs.Exactly.{Decides, passes-each, if-passed}
 use Rattle.demands.proofs.Reports.{noEntry, year-back, count-back, entries-back, report-right, report-bytes, length-report}
@@ -29,7 +30,7 @@ use Rattle.demands.proofs.ReportTests.{has, shared-decides, both-make}
 use Rattle.demands.proofs.RegisterTests.{sourceNumber}
 use Rattle.demands.proofs.Calculated.{Calculable, entries-distinct, sources-make}
 use Rattle.demands.proofs.Order.{distinct-perm, sorted-perm}
-use Rattle.demands.proofs.Trees.{Makes, makes-split, Reporting}
+use Rattle.demands.proofs.Trees.{Makes, makes-split, makes-perm, Reporting, dealt}
 
 -- an accepted call that writes: what it made stands at the front
 splice-front : (xs ys : List ℕ) → take (length ys) (splice xs 0 ys) ≡ ys
@@ -73,8 +74,8 @@ module _ (y : ℕ) (xs zs : List Entry) (v : Reportable y xs) (w : Reportable y 
       ap length is ∙ length-report y (inOrder (xs ++ zs)) (both-make xs zs v w a n) ∙ ap reportLength (length-inOrder (xs ++ zs) ∙ length-append xs zs) in
       let few : entryCount one + entryCount other ≤ mostSources = rw (count-back y xs v, count-back y zs w) n in
       let r =
-      accepted-written (formTest one 1 ∷ formTest other 2 ∷ yearTest one other ∷ sharedTest one other ∷ countTest one other ∷ []) made buffer
-      (passes-each (formTest one 1 ∷ formTest other 2 ∷ yearTest one other ∷ sharedTest one other ∷ countTest one other ∷ roomTest made buffer ∷ []) (
+      accepted-written (combinationTests one other) made buffer
+      (passes-each (combinationTests one other ++ (roomTest made buffer ∷ [])) (
         if-passed (not (wellFormed one)) 9 1 (ap not (report-right y xs v)),
         (
           if-passed (not (wellFormed other)) 9 2 (ap not (report-right y zs w)),
@@ -106,6 +107,12 @@ InYears y = (1990 ≤ y) × (y ≤ 2100)
 abbrev pub Sources : ℕ → List Source → Type 0
 Sources = Makes sourceNumber entryNumber entryOf Calculable InYears reportBytes entryCount reportLength mostSources combined
 
+pub sources-split : (y : ℕ) (ss ts : List Source) → Sources y (ss ++ ts) → Sources y ss × Sources y ts
+sources-split = makes-split sourceNumber entryNumber entryOf Calculable InYears reportBytes entryCount reportLength mostSources combined
+
+pub sources-perm : (y : ℕ) {ss ts : List Source} → List·Permᴰ ss ts → Sources y ss → Sources y ts
+sources-perm = makes-perm sourceNumber entryNumber entryOf Calculable InYears reportBytes entryCount reportLength mostSources combined
+
 pub made-of : (y : ℕ) (ss : List Source) → Sources y ss → Reportable y (entriesFor ss)
 made-of y ss m = sources-make y ss (m .year) (m .few) (m .sound) (m .once)
 
@@ -133,7 +140,7 @@ reporting =
       keyed = λ s. refl;
       counted = λ y ss m. count-back y (entriesFor ss) (made-of y ss m) ∙ length-entries ss;
       combined = λ y ss ts m buffer o.
-          let h = makes-split sourceNumber entryNumber entryOf Calculable InYears reportBytes entryCount reportLength mostSources combined y ss ts m in
+          let h = sources-split y ss ts m in
           let f : map entryOf (ss ++ ts) ≡ map entryOf ss ++ map entryOf ts = map-append entryOf ss ts in
           let d : Distinct entryNumber (map entryOf ss ++ map entryOf ts) = subst (Distinct entryNumber) f (entries-distinct (ss ++ ts) (m .once)) in
           let n : length (entriesFor ss) + length (entriesFor ts) ≡ length ss + length ts = ap₂ _+_ (length-entries ss) (length-entries ts) in
@@ -143,3 +150,9 @@ reporting =
           (apart entryNumber (entriesFor ss) (entriesFor ts) (both-distinct (map entryOf ss) (map entryOf ts) d)) (omega arith) buffer (omega arith) in
           (r .0, r .1 ∙ ap (reportBytes y) (sorted-both (map entryOf ss) (map entryOf ts) d ∙ ap inOrder (sym f)));
     }
+
+pub sources-dealt : (y : ℕ) (ss : List Source) (sss : List (List Source)) → List·Permᴰ (joined sss) ss → Sources y ss
+    → (t : Tree) → List·Permᴰ (leaves t) (map (λ ts. reportBytes y (entriesFor ts)) sss)
+    → Room entryCount reportLength t → EachAccepted combined t × (result combined t ≡ reportBytes y (entriesFor ss))
+unfolding entriesFor inOrder
+sources-dealt = dealt sourceNumber entryNumber entryOf Calculable InYears reportBytes entryCount reportLength mostSources combined reporting

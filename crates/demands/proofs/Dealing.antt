@@ -9,18 +9,17 @@ use lib.ListN.{length}
 use Rattle.basis.specs.Bytes.{Bytes}
 use Rattle.basis.specs.Lists.{joined}
 use Rattle.basis.specs.Answers.{Outcome}
-use Rattle.meaning.specs.Register.{Source, yearOf, mostSources, sourcesOf}
-use Rattle.meaning.specs.Report.{entryOf, inOrder, reportBytes, reportLength, entryCount}
-use Rattle.meaning.specs.Calls.{entriesFor, calculated, combined}
-use Rattle.demands.specs.Valid.{Each, Distinct, entryNumber, LaidRight}
+use Rattle.meaning.specs.Register.{Source, yearOf, sourcesOf}
+use Rattle.meaning.specs.Report.{reportBytes}
+use Rattle.meaning.specs.Calls.{entriesFor, calculated, combined, calculationTests, calculatedReport}
+use Rattle.demands.specs.Valid.{Each, Distinct, LaidRight}
 use Rattle.demands.specs.Trees.{Tree, report, combine, leaves, wrote, Accepted, result, EachAccepted}
 use Rattle.demands.specs.Demand3.{Lent, Dealt, calculation, Dealing}
 use Rattle.demands.proofs.Lists.{each-at}
 use Rattle.demands.proofs.RegisterTests.{noSource, sourceNumber, length-sources, source-at}
 use Rattle.demands.proofs.Registers.{Passed}
-use Rattle.demands.proofs.Calculated.{Calculable, tests, made, accepted, accepting}
-use Rattle.demands.proofs.Trees.{makes-split, makes-perm, dealt}
-use Rattle.demands.proofs.Combined.{accepted-written, InYears, Sources, reporting}
+use Rattle.demands.proofs.Calculated.{Calculable, accepted, accepting}
+use Rattle.demands.proofs.Combined.{accepted-written, Sources, sources-split, sources-perm, sources-dealt}
 
 -- what is said of answers and of bytes is said in one way only
 pub each-prop : {A : Type 0} {P : A → Type 0} → ((x : A) → IsProp (P x)) → (xs : List A) → IsProp (Each P xs)
@@ -54,7 +53,7 @@ calculated-made p h e =
     let b = p .register in
     let r = accepted b h (p .buffer) e in (
       record { year = r .0 .laid .year; sound = r .1; once = r .0 .once; few = rw (length-sources b) (r .0 .laid .sources) },
-      accepted-written (tests b h) (made b h) (p .buffer) (r .2) .1,
+      accepted-written (calculationTests b) (calculatedReport b) (p .buffer) (r .2) .1,
     )
 
 -- sources that make a report are calculated, with room
@@ -63,11 +62,12 @@ pub made-calculated : (p : Lent) → Dealt (yearOf (p .register)) p → Sources 
 unfolding calculated
 made-calculated p d m =
     let b = p .register in
-    accepted-written (tests b (d .bytes)) (made b (d .bytes)) (p .buffer)
+    accepted-written (calculationTests b) (calculatedReport b) (p .buffer)
     (accepting b (d .bytes) (p .buffer) (laid-passed b (d .laid) (m .sound) (m .once)) (m .sound) (d .room))
 
 module _ (y : ℕ) where
-  pub part-calculated : (p : Lent) → Dealt y p → Sources y (sourcesOf (p .register)) → Accepted (calculation p) × (wrote (calculation p) ≡ reportBytes y (entriesFor (sourcesOf (p .register))))
+  pub part-calculated : (p : Lent) → Dealt y p → Sources y (sourcesOf (p .register))
+      → Accepted (calculation p) × (wrote (calculation p) ≡ reportBytes y (entriesFor (sourcesOf (p .register))))
   part-calculated p d m =
       let e = d .sameYear in
       let r =
@@ -83,26 +83,25 @@ module _ (y : ℕ) where
   unfolding joined
   parts-calculated [] d m = (tt, refl)
   parts-calculated (p ∷ ps) d m =
-      let h = makes-split sourceNumber entryNumber entryOf Calculable InYears reportBytes entryCount reportLength mostSources combined y (sources p) (joined (map sources ps)) m in
+      let h = sources-split y (sources p) (joined (map sources ps)) m in
       let one = part-calculated p (d .0) (h .0) in
       let rest = parts-calculated ps (d .1) (h .1) in
       ((one .0, rest .0), ap₂ _∷_ (one .1) (rest .1))
 
 pub dealing : Dealing
-unfolding entriesFor inOrder
 dealing whole parts h a d perm =
     let b = whole .register in
     let y = yearOf b in
     let r = calculated-made whole h a in
     let all : List·Permᴰ (joined (map (sources y) parts)) (sourcesOf b) → Sources y (joined (map (sources y) parts)) =
-    λ q. makes-perm sourceNumber entryNumber entryOf Calculable InYears reportBytes entryCount reportLength mostSources combined y (Permᴰ·symm q) (r .0) in (
+    λ q. sources-perm y (Permᴰ·symm q) (r .0) in (
       ∥∥₁-elim perm (each-prop (λ p. accepted-prop (calculation p)) parts) (λ q. parts-calculated y parts d (all q) .0),
       λ t l o. ∥∥₁-elim perm (×-prop (tree-prop t) (bytes-prop (result combined t) (wrote (calculation whole))))
           (λ q. ∥∥₁-elim l (×-prop (tree-prop t) (bytes-prop (result combined t) (wrote (calculation whole))))
           (λ k.
           let f = parts-calculated y parts d (all q) .1 in
           let g =
-          dealt sourceNumber entryNumber entryOf Calculable InYears reportBytes entryCount reportLength mostSources combined reporting y (sourcesOf b) (map (sources y) parts) q (r .0) t
+          sources-dealt y (sourcesOf b) (map (sources y) parts) q (r .0) t
           (subst (List·Permᴰ (leaves t)) f k) o in
           (g .0, g .1 ∙ sym (r .1)))),
     )

@@ -47,7 +47,8 @@ first-decides (Passes ∷ vs) (row ∷ rows) d n p =
 first-decides (Refuses m q ∷ vs) (row ∷ rows) d n p =
     (λ e. inl (d .0 n p .0 e), λ r. ⊎-elim (λ h. d .0 n p .1 h) (λ h. absurd (h .0 m q (d .0 m q .0 refl))) r)
 
-pub decide-append : (vs us : List Verdict) (rows rows′ : List Row) → DecideAll vs rows → (firstRefusal vs ≡ Passes → DecideAll us rows′) → DecideAll (vs ++ us) (rows ++ rows′)
+pub decide-append : (vs us : List Verdict) (rows rows′ : List Row) → DecideAll vs rows → (firstRefusal vs ≡ Passes → DecideAll us rows′)
+    → DecideAll (vs ++ us) (rows ++ rows′)
 unfolding firstRefusal
 decide-append [] us [] rows′ d e = e refl
 decide-append [] us (row ∷ rows) rows′ d e = absurd d
@@ -156,7 +157,8 @@ refusal-path : {m q n p : ℕ} → Refuses m q ≡ Refuses n p → _≡_ {A = An
 refusal-path e i = record { number = sym (refuses-number e) i; place = sym (refuses-place e) i; length = 0 }
 
 -- a call's answer is given exactly when its rows say; where it accepts, what it made has the length stated
-pub exactly : (v : Verdict) (ns : List ℕ) (rows : List Row) (made len : ℕ) → Decides v (FirstOf rows) → Numbered ns rows → (v ≡ Passes → made ≡ len) → Exactly rows len (answer v made)
+pub exactly : (v : Verdict) (ns : List ℕ) (rows : List Row) (made len : ℕ) → Decides v (FirstOf rows) → Numbered ns rows → (v ≡ Passes → made ≡ len)
+    → Exactly rows len (answer v made)
 exactly Passes ns rows made len d z m =
     record {
       refused = λ n p h. (λ e. absurd (h (sym (ap (λ (a : Answer). a .number) e))), λ r. absurd (never (d n p .1 r)));

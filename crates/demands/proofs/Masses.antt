@@ -10,7 +10,7 @@ use lib.Dec.{ltb}
 use lib.ListN.{length, getD}
 use borrow.Author.Tests.{ltb-false}
 use Rattle.basis.specs.Bytes.{splice}
-use Rattle.basis.specs.Lists.{sum, without}
+use Rattle.basis.specs.Lists.{sum}
 use Rattle.basis.specs.declared.Verdict.{Verdict}
 use Rattle.basis.specs.declared.Verdict.the-variants.{Passes}
 use Rattle.basis.specs.Answers.{firstRefusal, settled}
@@ -18,16 +18,16 @@ use Rattle.basis.proofs.Answers.{coincide, coincide-part}
 use Rattle.basis.proofs.Lists.{sortedBy-perm}
 use Rattle.meaning.specs.Masses.{gasCount, divisors, carbonDioxide, added, taken, belowZero, rounded, mass, masses, equivalent, limit}
 use Rattle.meaning.specs.Register.{Source, yearOf, sourceAt, sourcesOf, decodedLines}
-use Rattle.meaning.specs.Report.{entryOf, figure, figureCount, totalAt, inOrder, reportBytes, reportYear, entriesOf}
+use Rattle.meaning.specs.Report.{entryOf, figure, figureCount, totalAt, inOrder, reportBytes}
 use Rattle.meaning.specs.Methods.{decoded}
-use Rattle.meaning.specs.Calls.{roomTest, formTest, yearTest, sharedTest, countTest, absentTest, written, massFault, entriesFor, bothEntries, numbered, calculated, combined, removed}
+use Rattle.meaning.specs.Calls.{roomTest, written, massFault, entriesFor, bothEntries, calculated, combined, removed, combinationTests, combinedReport, removalTests, removedReport, calculationTests, calculatedReport}
 use Rattle.meaning.proofs.Laws.{one-entry-each, entries-of-both}
 use Rattle.demands.specs.Valid.{entryNumber, Reportable}
 use Rattle.demands.specs.Demand2.{Nearest, Reports, Masses, Fixed}
 use Rattle.demands.proofs.Lists.{each-at, getD-counted}
 use Rattle.demands.proofs.Reports.{total-is, total-at, total-fits, report-right}
 use Rattle.demands.proofs.RegisterTests.{noSource, length-sources, source-at}
-use Rattle.demands.proofs.Calculated.{Calculable, tests, made, accepted, register-makes}
+use Rattle.demands.proofs.Calculated.{Calculable, accepted, register-makes}
 use Rattle.demands.proofs.Exactly.{each-passes}
 use Rattle.demands.proofs.ReportCalls.{both-reportable, combination-passed, removal-passed}
 use Rattle.demands.proofs.EveryDealing.{sum-perm}
@@ -67,7 +67,8 @@ not-below s e = by (belowZero (decodedLines s)) refl e
     by false p q = ltb-false _ _ p
 
 -- what is left in the buffer of an accepted call
-left-written : (tests : List Verdict) (made buffer : List ℕ) → firstRefusal (tests ++ (roomTest made buffer ∷ [])) ≡ Passes → written tests made buffer .left ≡ splice buffer 0 made
+left-written : (tests : List Verdict) (made buffer : List ℕ) → firstRefusal (tests ++ (roomTest made buffer ∷ [])) ≡ Passes
+    → written tests made buffer .left ≡ splice buffer 0 made
 unfolding written settled
 left-written tests made buffer e = ap (λ (v : Verdict). settled v made buffer .left) e
 
@@ -106,7 +107,7 @@ masses-kept =
           (refl, refl, not-below s (c .kept), mass-nearest s);
       left = λ register report h a.
           let r = accepted register h report a in
-          (entriesFor (sourcesOf register), reports register (register-makes register h (r .0) (r .1)), left-written (tests register h) (made register h) report (r .2));
+          (entriesFor (sourcesOf register), reports register (register-makes register h (r .0) (r .1)), left-written (calculationTests register) (calculatedReport register) report (r .2));
       twins = λ s t m p l i. masses (map (decoded (m i) (p i)) (l i));
     }
 
@@ -121,10 +122,10 @@ fixed =
             bothEntries one other,
             entries-of-both one other,
             r .0 .order,
-            left-written (formTest one 1 ∷ formTest other 2 ∷ yearTest one other ∷ sharedTest one other ∷ countTest one other ∷ []) (reportBytes (reportYear one) (bothEntries one other)) report e,
+            left-written (combinationTests one other) (combinedReport one other) report e,
           );
       removal = λ report result number h a.
-          left-written (formTest report 1 ∷ absentTest report number ∷ []) (reportBytes (reportYear report) (without (numbered number) (entriesOf report))) result
+          left-written (removalTests report number) (removedReport report number) result
           (removal-passed report number h result a);
       coincide = λ o a a′ bs bs′ g g′. coincide g g′;
       coincideParts = λ A bytes base start offset size held held′ place place′ s s′. coincide-part s s′;

@@ -146,11 +146,13 @@ module _ (plant contractor : List ℕ) (x : ℕ) where
   abbrev Neither : Type 0
   Neither = Refused plant ⊎ Refused contractor ⊎ (Absent plant x × Absent contractor x) ⊎ (((i : ℕ) × Numbered plant x i) × ((j : ℕ) × Numbered contractor x j))
 
-  in-plant : (i : ℕ) → accepted plant ≡ true → accepted contractor ≡ true → Numbered plant x i → Absent contractor x → foundOfTwo plant contractor x ≡ inRegister 1 (found plant x)
+  in-plant : (i : ℕ) → accepted plant ≡ true → accepted contractor ≡ true → Numbered plant x i → Absent contractor x
+      → foundOfTwo plant contractor x ≡ inRegister 1 (found plant x)
   unfolding foundOfTwo
   in-plant i p q n a = rw (p, q, it-holds plant x i n, absent-holds contractor x a)
 
-  in-contractor : (j : ℕ) → accepted plant ≡ true → accepted contractor ≡ true → Absent plant x → Numbered contractor x j → foundOfTwo plant contractor x ≡ inRegister 2 (found contractor x)
+  in-contractor : (j : ℕ) → accepted plant ≡ true → accepted contractor ≡ true → Absent plant x → Numbered contractor x j
+      → foundOfTwo plant contractor x ≡ inRegister 2 (found contractor x)
   unfolding foundOfTwo
   in-contractor j p q a n = rw (p, q, absent-holds plant x a, it-holds contractor x j n)
 

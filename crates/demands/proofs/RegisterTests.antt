@@ -96,7 +96,8 @@ header-decides b = (
 )
 
 -- a test that refuses with one number at the first index that is wrong
-pub decide-at-first : (number : ℕ) (test : ℕ → Bool) (count : ℕ) (W : ℕ → Type 0) → ((i : ℕ) → i < count → test i ≡ true → W i) → ((i : ℕ) → i < count → W i → test i ≡ true)
+pub decide-at-first : (number : ℕ) (test : ℕ → Bool) (count : ℕ) (W : ℕ → Type 0) → ((i : ℕ) → i < count → test i ≡ true → W i)
+    → ((i : ℕ) → i < count → W i → test i ≡ true)
     → Decides (refuseAtFirst number test count) (atSmallest count (numbered number W))
 unfolding refuseAtFirst
 decide-at-first number test count W right only =

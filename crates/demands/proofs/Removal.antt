@@ -10,7 +10,7 @@ use lib.ListN.{length, getD}
 use borrow.Author.Tests.{eq-eqb, ne-eqb}
 use Rattle.basis.specs.Lists.{any, without}
 use Rattle.meaning.specs.Report.{Entry, inOrder, reportBytes, reportLength, reportYear, entryCount, entriesOf, wellFormed}
-use Rattle.meaning.specs.Calls.{roomTest, formTest, numbered, absentTest, combined, removed}
+use Rattle.meaning.specs.Calls.{roomTest, numbered, combined, removed, removalTests}
 use Rattle.demands.specs.Valid.{Each, Entered, Distinct, entryNumber, Reportable}
 use Rattle.demands.specs.Trees.{wrote, Accepted}
 use Rattle.demands.specs.Demand3.{GoodReport, Gives, Neutral, Again}
@@ -78,8 +78,8 @@ removed-writes y x es v h result o =
     let long : length made ≡ reportLength (length (without (numbered x) es)) = ap length is ∙ length-report y (without (numbered x) es) (without-make x es v) in
     let there : any (numbered x) (entriesOf b) ≡ true = ap (any (numbered x)) (entries-back y es v) ∙ h in
     let r =
-    accepted-written (formTest b 1 ∷ absentTest b x ∷ []) made result
-    (passes-each (formTest b 1 ∷ absentTest b x ∷ roomTest made result ∷ []) (
+    accepted-written (removalTests b x) made result
+    (passes-each (removalTests b x ++ (roomTest made result ∷ [])) (
       if-passed (not (wellFormed b)) 9 1 (ap not (report-right y es v)),
       (if-passed (not (any (numbered x) (entriesOf b))) 13 x (ap not there), (enough-room made result (omega arith), tt)),
     )) in

@@ -15,9 +15,9 @@ use Rattle.basis.specs.Lists.{any, without}
 use Rattle.basis.specs.Answers.{firstRefusal, answer}
 use Rattle.basis.proofs.First.{clash}
 use Rattle.meaning.specs.Register.{mostSources}
-use Rattle.meaning.specs.Report.{Entry, reportBytes, reportLength, reportYear, entryCount, entriesOf}
+use Rattle.meaning.specs.Report.{Entry, reportLength, reportYear, entryCount, entriesOf}
 use Rattle.meaning.specs.Text.{reportText}
-use Rattle.meaning.specs.Calls.{formTest, yearTest, sharedTest, countTest, roomTest, bothEntries, numbered, absentTest, combined, removed, checked, text}
+use Rattle.meaning.specs.Calls.{formTest, sharedTest, countTest, roomTest, bothEntries, numbered, absentTest, combined, removed, checked, text, combinationTests, combinedReport, removalTests, removedReport}
 use Rattle.meaning.proofs.Laws.{length-inOrder}
 use Rattle.demands.specs.Valid.{Each, Entered, Ascending, Distinct, entryNumber, Reportable}
 use Rattle.demands.specs.Demand1.{FromTable, Answers}
@@ -44,14 +44,14 @@ module _ (one other : List ℕ) (h : Bytes one) (g : Bytes other) where
       )
 
   both-length : formTest one 1 ≡ Passes → formTest other 2 ≡ Passes → sharedTest one other ≡ Passes → countTest one other ≡ Passes
-      → length (reportBytes (reportYear one) (bothEntries one other)) ≡ reportLength (entryCount one + entryCount other)
+      → length (combinedReport one other) ≡ reportLength (entryCount one + entryCount other)
   both-length p q s c =
       let r = both-reportable p q s c in
       length-report (reportYear one) (bothEntries one other) (r .0) ∙ ap reportLength (r .1)
 
   pub combination-decides : (report : List ℕ)
       → DecideAll
-      (formTest one 1 ∷ formTest other 2 ∷ yearTest one other ∷ sharedTest one other ∷ countTest one other ∷ roomTest (reportBytes (reportYear one) (bothEntries one other)) report ∷ [])
+      (combinationTests one other ++ (roomTest (combinedReport one other) report ∷ []))
       (combinationRows one other (length report))
   combination-decides report = (
     form-decides one 1 h,
@@ -64,7 +64,7 @@ module _ (one other : List ℕ) (h : Bytes one) (g : Bytes other) where
           λ s. (
             count-decides one other,
             λ c.
-                (room-decides (reportBytes (reportYear one) (bothEntries one other)) report (reportLength (entryCount one + entryCount other)) (both-length p q s c), λ _. tt),
+                (room-decides (combinedReport one other) report (reportLength (entryCount one + entryCount other)) (both-length p q s c), λ _. tt),
           ),
         ),
       ),
@@ -90,12 +90,13 @@ module _ (one other : List ℕ) (h : Bytes one) (g : Bytes other) where
         );
       }
 
-  pub combination-exactly : (report : List ℕ) → Exactly (combinationRows one other (length report)) (reportLength (entryCount one + entryCount other)) (combined one other report .answer)
+  pub combination-exactly : (report : List ℕ)
+      → Exactly (combinationRows one other (length report)) (reportLength (entryCount one + entryCount other)) (combined one other report .answer)
   unfolding combined
   combination-exactly report =
       exactly-written
-      (formTest one 1 ∷ formTest other 2 ∷ yearTest one other ∷ sharedTest one other ∷ countTest one other ∷ []) (8 ∷ 9 ∷ 10 ∷ 11 ∷ 12 ∷ [])
-      (combinationRows one other (length report)) (reportBytes (reportYear one) (bothEntries one other)) report (reportLength (entryCount one + entryCount other))
+      (combinationTests one other) (8 ∷ 9 ∷ 10 ∷ 11 ∷ 12 ∷ [])
+      (combinationRows one other (length report)) (combinedReport one other) report (reportLength (entryCount one + entryCount other))
       (combination-decides report)
       (numbered-9-12 report)
       (λ e. let p = each-passes _ e in both-length (p .0) (p .1 .0) (p .1 .1 .1 .0) (p .1 .1 .1 .1 .0))
@@ -103,15 +104,15 @@ module _ (one other : List ℕ) (h : Bytes one) (g : Bytes other) where
   pub combination-answers : (report : List ℕ) → Answers (8 ∷ 9 ∷ 10 ∷ 11 ∷ 12 ∷ []) report (combined one other report)
   unfolding combined
   combination-answers report =
-      answers (formTest one 1 ∷ formTest other 2 ∷ yearTest one other ∷ sharedTest one other ∷ countTest one other ∷ []) (8 ∷ 9 ∷ 10 ∷ 11 ∷ 12 ∷ [])
-      (combinationRows one other (length report)) (reportBytes (reportYear one) (bothEntries one other)) report (combination-decides report) (numbered-9-12 report)
+      answers (combinationTests one other) (8 ∷ 9 ∷ 10 ∷ 11 ∷ 12 ∷ [])
+      (combinationRows one other (length report)) (combinedReport one other) report (combination-decides report) (numbered-9-12 report)
 
   pub combination-passed : (report : List ℕ) → combined one other report .answer .number ≡ 0
-      → firstRefusal (formTest one 1 ∷ formTest other 2 ∷ yearTest one other ∷ sharedTest one other ∷ countTest one other ∷ roomTest (reportBytes (reportYear one) (bothEntries one other)) report ∷ []) ≡ Passes
+      → firstRefusal (combinationTests one other ++ (roomTest (combinedReport one other) report ∷ [])) ≡ Passes
   unfolding combined
   combination-passed report e =
-      zero-passes (formTest one 1 ∷ formTest other 2 ∷ yearTest one other ∷ sharedTest one other ∷ countTest one other ∷ []) (8 ∷ 9 ∷ 10 ∷ 11 ∷ 12 ∷ [])
-      (combinationRows one other (length report)) (reportBytes (reportYear one) (bothEntries one other)) report (combination-decides report) (numbered-9-12 report) e
+      zero-passes (combinationTests one other) (8 ∷ 9 ∷ 10 ∷ 11 ∷ 12 ∷ [])
+      (combinationRows one other (length report)) (combinedReport one other) report (combination-decides report) (numbered-9-12 report) e
 
 -- Removal
 pub without-each : (P : Entry → Type 0) (x : ℕ) (es : List Entry) → Each P es → Each P (without (numbered x) es)
@@ -132,7 +133,8 @@ unfolding without
 without-ascending n x [] a = tt
 without-ascending n x (e ∷ es) a = by (numbered x e) (without-ascending (entryNumber e) x es (a .1))
   where
-    by : (b : Bool) → Ascending entryNumber (entryNumber e) (without (numbered x) es) → Ascending entryNumber n (cond b (without (numbered x) es) (e ∷ without (numbered x) es))
+    by : (b : Bool) → Ascending entryNumber (entryNumber e) (without (numbered x) es)
+        → Ascending entryNumber n (cond b (without (numbered x) es) (e ∷ without (numbered x) es))
     by true r = ascending-above n (entryNumber e) (without (numbered x) es) (omega (arith, a .0)) r
     by false r = (a .0, r)
 
@@ -174,7 +176,7 @@ without-make x es v =
 
 module _ (report : List ℕ) (number : ℕ) (h : Bytes report) where
   rest-length : formTest report 1 ≡ Passes → absentTest report number ≡ Passes
-      → length (reportBytes (reportYear report) (without (numbered number) (entriesOf report))) ≡ reportLength (entryCount report - 1)
+      → length (removedReport report number) ≡ reportLength (entryCount report - 1)
   rest-length p a =
       let w = passed-form report 1 p in
       let v = made-of report h w in
@@ -185,16 +187,13 @@ module _ (report : List ℕ) (number : ℕ) (h : Bytes report) where
       length-report (reportYear report) (without (numbered number) (entriesOf report)) (without-make number (entriesOf report) v)
       ∙ ap reportLength (omega (arith, one, counted report h w))
 
-  abbrev rest : List ℕ
-  rest = reportBytes (reportYear report) (without (numbered number) (entriesOf report))
-
-  removal-decides : (result : List ℕ) → DecideAll (formTest report 1 ∷ absentTest report number ∷ roomTest rest result ∷ []) (removalRows report number (length result))
+  removal-decides : (result : List ℕ) → DecideAll (removalTests report number ++ (roomTest (removedReport report number) result ∷ [])) (removalRows report number (length result))
   removal-decides result = (
     form-decides report 1 h,
     λ p. (
       absent-decides report number h (passed-form report 1 p),
       λ a.
-          (room-decides rest result (reportLength (entryCount report - 1)) (rest-length p a), λ _. tt),
+          (room-decides (removedReport report number) result (reportLength (entryCount report - 1)) (rest-length p a), λ _. tt),
     ),
   )
 
@@ -202,21 +201,23 @@ module _ (report : List ℕ) (number : ℕ) (h : Bytes report) where
   numbered-9-13 result =
       record { positive = omega arith; among = (λ n p r. inr (inl (r .0)), (λ n p r. inr (inr (inl (r .0))), (λ n p r. inl (r .0), tt))) }
 
-  pub removal-exactly : (result : List ℕ) → Exactly (removalRows report number (length result)) (reportLength (entryCount report - 1)) (removed report number result .answer)
+  pub removal-exactly : (result : List ℕ)
+      → Exactly (removalRows report number (length result)) (reportLength (entryCount report - 1)) (removed report number result .answer)
   unfolding removed
   removal-exactly result =
-      exactly-written (formTest report 1 ∷ absentTest report number ∷ []) (8 ∷ 9 ∷ 13 ∷ []) (removalRows report number (length result)) rest result
+      exactly-written (removalTests report number) (8 ∷ 9 ∷ 13 ∷ []) (removalRows report number (length result)) (removedReport report number) result
       (reportLength (entryCount report - 1)) (removal-decides result) (numbered-9-13 result) (λ e. let p = each-passes _ e in rest-length (p .0) (p .1 .0))
 
   pub removal-answers : (result : List ℕ) → Answers (8 ∷ 9 ∷ 13 ∷ []) result (removed report number result)
   unfolding removed
   removal-answers result =
-      answers (formTest report 1 ∷ absentTest report number ∷ []) (8 ∷ 9 ∷ 13 ∷ []) (removalRows report number (length result)) rest result (removal-decides result) (numbered-9-13 result)
+      answers (removalTests report number) (8 ∷ 9 ∷ 13 ∷ []) (removalRows report number (length result)) (removedReport report number) result (removal-decides result) (numbered-9-13 result)
 
-  pub removal-passed : (result : List ℕ) → removed report number result .answer .number ≡ 0 → firstRefusal (formTest report 1 ∷ absentTest report number ∷ roomTest rest result ∷ []) ≡ Passes
+  pub removal-passed : (result : List ℕ) → removed report number result .answer .number ≡ 0
+      → firstRefusal (removalTests report number ++ (roomTest (removedReport report number) result ∷ [])) ≡ Passes
   unfolding removed
   removal-passed result e =
-      zero-passes (formTest report 1 ∷ absentTest report number ∷ []) (8 ∷ 9 ∷ 13 ∷ []) (removalRows report number (length result)) rest result (removal-decides result) (numbered-9-13 result) e
+      zero-passes (removalTests report number) (8 ∷ 9 ∷ 13 ∷ []) (removalRows report number (length result)) (removedReport report number) result (removal-decides result) (numbered-9-13 result) e
 
 first-decides-one : (v : Verdict) (row : Row) → Decides v row → Decides v (FirstOf (row ∷ []))
 first-decides-one v row d n p = (λ e. inl (d n p .0 e), λ r. ⊎-elim (λ q. d n p .1 q) (λ q. absurd (q .1)) r)

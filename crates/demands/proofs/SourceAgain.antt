@@ -33,7 +33,8 @@ perm-index d (List·Permᴰ·trans p q) j l =
     let s = perm-index d q (r .0) (r .1) in
     (s .0, s .1, s .2 ∙ r .2)
 
-entry-index : (ss : List Source) (s : Source) (i : ℕ) → i < length ss → getD ss i s ≡ s → (k : ℕ) × (k < length (entriesFor ss)) × (getD (entriesFor ss) k (entryOf s) ≡ entryOf s)
+entry-index : (ss : List Source) (s : Source) (i : ℕ) → i < length ss → getD ss i s ≡ s
+    → (k : ℕ) × (k < length (entriesFor ss)) × (getD (entriesFor ss) k (entryOf s) ≡ entryOf s)
 unfolding entriesFor inOrder
 entry-index ss s i l q =
     let m : i < length (map entryOf ss) = rw (length-map ss entryOf) l in

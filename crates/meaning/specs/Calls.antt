@@ -57,10 +57,14 @@ unfoldable pub entriesFor : List Source → List Entry
 entriesFor ss = inOrder (map entryOf ss)
 
 -- "Calculation tests 1, 2 by field, 3 over all sources, 4 over all, 5 over all lines, then 6 and 7 .., then 8"
+abbrev pub calculationTests : List ℕ → List Verdict
+calculationTests register = registerTests register ++ (lineTest (sourcesOf register) ∷ massTest (sourcesOf register) ∷ [])
+
+abbrev pub calculatedReport : List ℕ → List ℕ
+calculatedReport register = reportBytes (yearOf register) (entriesFor (sourcesOf register))
+
 unfoldable pub calculated : List ℕ → List ℕ → Outcome
-calculated register report =
-    let ss = sourcesOf register in
-    written (registerTests register ++ (lineTest ss ∷ massTest ss ∷ [])) (reportBytes (yearOf register) (entriesFor ss)) report
+calculated register report = written (calculationTests register) (calculatedReport register) report
 
 -- "9 | a report is not well-formed | 1 or 2, which one; 1 if only one is lent"
 abbrev pub formTest : List ℕ → ℕ → Verdict
@@ -89,13 +93,16 @@ countTest one other = refuseIf (ltb mostSources (entryCount one + entryCount oth
 unfoldable pub bothEntries : List ℕ → List ℕ → List Entry
 bothEntries one other = inOrder (entriesOf one ++ entriesOf other)
 
--- "Combining: 9 for the first, 9 for the second, 10, 11, 12, 8"; "Combining writes the well-formed report of all entries of both"
+-- "Combining: 9 for the first, 9 for the second, 10, 11, 12, 8"
+abbrev pub combinationTests : List ℕ → List ℕ → List Verdict
+combinationTests one other = formTest one 1 ∷ formTest other 2 ∷ yearTest one other ∷ sharedTest one other ∷ countTest one other ∷ []
+
+-- "Combining writes the well-formed report of all entries of both"
+abbrev pub combinedReport : List ℕ → List ℕ → List ℕ
+combinedReport one other = reportBytes (reportYear one) (bothEntries one other)
+
 unfoldable pub combined : List ℕ → List ℕ → List ℕ → Outcome
-combined one other report =
-    written
-    (formTest one 1 ∷ formTest other 2 ∷ yearTest one other ∷ sharedTest one other ∷ countTest one other ∷ [])
-    (reportBytes (reportYear one) (bothEntries one other))
-    report
+combined one other report = written (combinationTests one other) (combinedReport one other) report
 
 -- an entry has a number
 abbrev pub numbered : ℕ → Entry → Bool
@@ -105,13 +112,16 @@ numbered n e = eqb (e .number) n
 abbrev pub absentTest : List ℕ → ℕ → Verdict
 absentTest report number = refuseIf (not (any (numbered number) (entriesOf report))) 13 number
 
--- "Removal: 9, 13, 8"; "Removal writes the report without that entry"
+-- "Removal: 9, 13, 8"
+abbrev pub removalTests : List ℕ → ℕ → List Verdict
+removalTests report number = formTest report 1 ∷ absentTest report number ∷ []
+
+-- "Removal writes the report without that entry"
+abbrev pub removedReport : List ℕ → ℕ → List ℕ
+removedReport report number = reportBytes (reportYear report) (without (numbered number) (entriesOf report))
+
 unfoldable pub removed : List ℕ → ℕ → List ℕ → Outcome
-removed report number result =
-    written
-    (formTest report 1 ∷ absentTest report number ∷ [])
-    (reportBytes (reportYear report) (without (numbered number) (entriesOf report)))
-    result
+removed report number result = written (removalTests report number) (removedReport report number) result
 
 -- "The report check has only 9, place 1"; the length is that of the report judged
 unfoldable pub checked : List ℕ → Answer

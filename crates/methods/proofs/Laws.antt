@@ -18,7 +18,8 @@ use Rattle.methods.specs.Ranges.{Entry, InRanges, carbonFactor}
 use Rattle.methods.specs.Terms.{Weighs, contributed}
 
 -- each entry of a table is within two bounds: one computed test
-pub entry : (table : List ℕ) (low high : ℕ) → everywhere (λ i n. within low high n) table ≡ true → (at : ℕ) → at < length table → Entry table low high at (getD table at 0)
+pub entry : (table : List ℕ) (low high : ℕ) → everywhere (λ i n. within low high n) table ≡ true → (at : ℕ) → at < length table
+    → Entry table low high at (getD table at 0)
 entry table low high e at h =
     let n = getD table at 0 in
     let w : T (within low high n) = rw (everywhere-at (λ i n. within low high n) table 0 e at h) tt in
