@@ -3,8 +3,8 @@ use mathlib.Core.List.{List, [], _∷_, map}
 use mathlib.Core.Path.{_≡_}
 use Prim.Native.Nat.{ℕ, _+_, _*_, _-_, _/_, _^_, _≤_, _<_}
 use lib.ListN.{getD}
-use Rattle.meaning.specs.Methods.{whole, largestContent, mostQuantity}
-use Rattle.meaning.specs.Masses.{divisors, co2OfCarbon, mostFactor}
+use Rattle.meaning.specs.Methods.{largestContent, mostQuantity}
+use Rattle.meaning.specs.Masses.{divisors, mostFactor}
 use Rattle.exact.specs.declared.Amount.{Amount}
 
 -- the ten-billionths of a gram: "For CO2, grams are N / 10^10"
@@ -24,10 +24,6 @@ scales = map (λ d. gram / d) divisors
 
 abbrev pub scale : ℕ → ℕ
 scale gas = getD scales gas 0
-
--- what Q and the content are multiplied by at most, by gas: B 3664 for CO2, B for CH4, 1 for N2O
-abbrev pub mostFactors : List ℕ
-mostFactors = co2OfCarbon whole ∷ whole ∷ 1 ∷ []
 
 -- the numbers of a line whose product it adds; the nitric acid has its f for a content
 pub record Ranged (q content factor : ℕ) : Type 0 where

@@ -4,8 +4,8 @@ ghost use mathlib.Core.Bool.{false};
 ghost use Prim.Native.Nat.{_+_, _*_, _≤_, _<_};
 ghost use lib.Dec.{ltb};
 ghost use lib.ListN.{getD};
-ghost use Rattle.meaning.specs.Masses.{warming, gasCount, mostFactor, rounded};
-ghost use Rattle.exact.specs.Amounts.{gram, value, mostFactors, scale, Ranged, OfLine, Room, Added, Subtracted};
+ghost use Rattle.meaning.specs.Masses.{warming, gasCount, mostFactors, mostFactor, rounded};
+ghost use Rattle.exact.specs.Amounts.{gram, value, scale, Ranged, OfLine, Room, Added, Subtracted};
 ghost use Rattle.exact.specs.Equivalents.{withinLimit};
 
 // The ten-billionths of a gram in a gram.

@@ -11,4 +11,4 @@ starred = record { each = refl }
 pub examples : Examples
 unfolding opened resultOf calculates twins made reportOfSources damaged combining removing
 examples =
-    record { once = refl; shown = refl; refused = refl; together = refl; apart = refl; name = refl; nameless = refl; names = refl; inBoth = refl }
+    record { once = refl; dust = refl; shown = refl; refused = refl; together = refl; apart = refl; name = refl; nameless = refl; names = refl; inBoth = refl }

@@ -89,6 +89,8 @@ rows =
 pub record Examples : Type 0 where
   -- two lines of half a gram each are rounded once, to a gram
   pub once : calculates (case 6 6 (line 30 1 0 1000 0 0 ∷ line 30 1 0 1000 0 0 ∷ []) (gives [])) ≡ gives (0 ∷ 0 ∷ 1 ∷ 298 ∷ [])
+  -- "Dust without a measured share has B 10,000 and takes nothing away"
+  pub dust : calculates (case 5 0 (line 20 1 1 1000 1000000 10000 ∷ line 21 1 1 1000 1000000 10000 ∷ []) (gives [])) ≡ gives (440000 ∷ 0 ∷ 0 ∷ 440000 ∷ [])
   -- the text that document 01 has for the twins
   pub shown : made 100 (text (reportOfSources (boiler 8 ∷ boiler 7 ∷ [])))
       ≡ ascii "2023 2 5862400000 0 0 5862400000\n7 1 2931200000 0 0 2931200000\n8 1 2931200000 0 0 2931200000\n"

@@ -38,9 +38,12 @@ divisors = 10 ^ 10 ∷ 10 ^ 7 ∷ 10 ^ 4 ∷ []
 abbrev pub co2OfCarbon : ℕ → ℕ
 co2OfCarbon carbon = carbon * 3664
 
--- what a line's Q and content are multiplied by at most: the whole of its share, as CO2
+-- what a line's Q and content are multiplied by at most, by gas: B 3664 for CO2, B for CH4, and for N2O, whose content is f, nothing more
 abbrev pub mostFactor : ℕ
 mostFactor = co2OfCarbon whole
+
+abbrev pub mostFactors : List ℕ
+mostFactors = mostFactor ∷ whole ∷ 1 ∷ []
 
 -- what a line adds to, or takes from, the exact sum of one gas
 pub record Contribution : Type 0 where

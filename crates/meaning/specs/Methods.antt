@@ -62,7 +62,7 @@ given false l kind other = other
 abbrev pub isKind : ℕ → RawLine → Bool
 isKind n l = eqb (l .kind) n
 
--- "any unit"; "units 1 and 2"; "unit 1"
+-- "Units: 1 tonne, 2 thousand m3, 3 tonne of standard fuel, 4 TJ": "any unit"; "units 1 and 2"; "unit 1"
 abbrev pub anyUnit : RawLine → Bool
 anyUnit l = within 1 4 (l .unit)
 

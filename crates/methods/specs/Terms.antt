@@ -2,9 +2,10 @@
 use mathlib.Core.Bool.{Bool, true, false}
 use mathlib.Core.Path.{_≡_}
 use Prim.Native.Nat.{ℕ, _*_, _≤_, _<_}
+use lib.ListN.{getD}
 use Rattle.methods.specs.declared.Term.{Term}
 use Rattle.meaning.specs.Methods.{largestContent}
-use Rattle.meaning.specs.Masses.{Contribution, adding, taking, mostFactor, gasCount}
+use Rattle.meaning.specs.Masses.{Contribution, adding, taking, mostFactors, gasCount}
 
 abbrev pub contributed : Bool → ℕ → ℕ → Contribution
 contributed false gas n = adding gas n
@@ -15,4 +16,4 @@ pub record Weighs (of : ℕ → Contribution) (t : Term) : Type 0 where
   pub sum : (q : ℕ) → of q ≡ contributed (t .takes) (t .gas) (q * t .content * t .factor)
   pub gas : t .gas < gasCount
   pub content : t .content ≤ largestContent
-  pub factor : t .factor ≤ mostFactor
+  pub factor : t .factor ≤ getD mostFactors (t .gas) 0

@@ -2,8 +2,9 @@
 ghost use mathlib.Core.Bool.{false};
 ghost use mathlib.Core.Path.{_≡_};
 ghost use Prim.Native.Nat.{_*_, _≤_, _<_};
+ghost use lib.ListN.{getD};
 ghost use Rattle.meaning.specs.Methods.{whole, largestContent, carbonates, acids, balanced, mostContent, inRange, given, fuel, flare, metals, petrochemical, cement, nitricAcid, byMethod, decoded};
-ghost use Rattle.meaning.specs.Masses.{gasCount, carbonDioxide, co2OfCarbon, mostFactor, contribution};
+ghost use Rattle.meaning.specs.Masses.{gasCount, carbonDioxide, co2OfCarbon, mostFactors, contribution};
 ghost use Rattle.methods.specs.Ranges.{Entry, InRanges, KindFits, LineFits, carbonFactor, mostAcid};
 ghost use Rattle.methods.specs.Terms.{Weighs, contributed};
 use meaning::Decoded;
@@ -237,7 +238,7 @@ pub fn decode(method: u64, parameter: u64, line: RawLine) -> Decoded
 
 // A gas that is added: a content times a factor.
 fn gas_term(gas: usize, content: u64, factor: u64) -> Term
-    requires { ⌜ (gas < gasCount) × (content ≤ largestContent) × (factor ≤ mostFactor) ⌝ }
+    requires { ⌜ (gas < gasCount) × (content ≤ largestContent) × (factor ≤ getD mostFactors gas 0) ⌝ }
     ensures { λ r. ⌜ Weighs (λ q. contributed false gas (q * content * factor)) r ⌝ }
 {
     Term {
