@@ -1,5 +1,5 @@
 -- Exact amounts: grams and ten-billionths of a gram, the scale of CO2's divisor, for every gas. Assumes nothing.
-use mathlib.Core.List.{List, [], _∷_, map}
+use mathlib.Core.List.{List, map}
 use mathlib.Core.Path.{_≡_}
 use Prim.Native.Nat.{ℕ, _+_, _*_, _-_, _/_, _^_, _≤_, _<_}
 use lib.ListN.{getD}
