@@ -1,10 +1,11 @@
 -- A scan that goes up finds the first. Assumes nothing.
-use mathlib.Core.Bool.{Bool, true, false, cond, true≢false}
-use mathlib.Core.Path.{_≡_, refl, sym, _∙_}
+use mathlib.Core.Bool.{Bool, true, false, cond}
+use mathlib.Core.Path.{_≡_, refl}
 use native.Mathlib.Decide.{decLt}
 use Prim.Native.Nat.{ℕ, zero, suc, _+_, _≤_, _<_}
 use native.Mathlib.Nat.{zero-add}
 use native.Mathlib.Omega.{arith}
+use Rattle.basis.proofs.Bools.{clash}
 use Rattle.basis.specs.First.{scan, first, NoneBelow}
 
 -- a loop's turns: at an index where the test holds the scan ends, and else it goes on
@@ -46,9 +47,6 @@ scanned test i zero = here test i (i + 0) (omega arith) (λ l. absurd (omega ari
 scanned test i (suc k) =
     let e : i + 1 + k ≡ i + suc k = omega arith in
     turn test i (i + suc k) (scan test (i + 1) k) (omega arith) (rw e at (scanned test (i + 1) k)) (test i) refl
-
-pub clash : {b : Bool} → b ≡ true → b ≡ false → ⊥
-clash p q = true≢false (sym p ∙ q)
 
 module _ (test : ℕ → Bool) (n : ℕ) where
   first-scanned : Scanned test 0 n (first test n)

@@ -14,9 +14,10 @@ use Rattle.basis.specs.Bytes.{Bytes}
 use Rattle.basis.specs.Lists.{any, joined}
 use Rattle.basis.specs.Answers.{firstRefusal, answer}
 use Rattle.basis.specs.First.{first}
-use Rattle.basis.proofs.First.{clash, first-misses, first-end}
+use Rattle.basis.proofs.First.{first-misses, first-end}
 use Rattle.basis.proofs.Answers.{passed-at-all, passed-then}
 use Rattle.basis.proofs.Lists.{length-countUp, length-sortedBy}
+use Rattle.basis.proofs.Bools.{clash, and-true, not-both, or-either}
 use Rattle.meaning.specs.declared.Decoded.the-variants.{Bad}
 use Rattle.meaning.specs.Methods.{within, listed, isBad}
 use Rattle.meaning.specs.Masses.{gasCount, gases, belowZero, mass, masses, equivalent, limit}
@@ -28,12 +29,12 @@ use Rattle.demands.specs.Valid.{Each, Entered, Distinct, entryNumber, Re
 use Rattle.demands.specs.Demand1.{Among, Answers}
 use Rattle.demands.specs.Exactly.{Exactly}
 use Rattle.demands.specs.Refusals.{registerRows, calculationRows}
-use Rattle.demands.proofs.Lists.{and-true, not-both, any-some, some-any, any-append, append-any, each-at, at-each, each-map}
+use Rattle.demands.proofs.Lists.{any-some, some-any, any-append, append-any, each-at, at-each, each-map}
 use Rattle.demands.proofs.Order.{sorted-each, sorted-ascending}
 use Rattle.demands.proofs.Rows.{numberAt-fits, bytes-drop}
 use Rattle.demands.proofs.Exactly.{passed-if, if-passed, each-passes, decide-append, DecideAll, Numbered, passed-append, passes-each, exactly-written, zero-passes, answers, room-decides}
 use Rattle.demands.proofs.Reports.{length-report}
-use Rattle.demands.proofs.RegisterTests.{or-either, noSource, sourceNumber, length-sources, source-at, register-decides}
+use Rattle.demands.proofs.RegisterTests.{noSource, sourceNumber, length-sources, source-at, register-decides}
 use Rattle.demands.proofs.Registers.{sound-parts, Passed, passed, passing}
 use Rattle.demands.proofs.Calculation.{no-fault, line-decides, mass-decides}
 

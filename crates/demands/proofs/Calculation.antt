@@ -11,7 +11,7 @@ use lib.Dec.{eqb, ltb}
 use lib.ListN.{length, getD, length-map, List·getD-map}
 use borrow.Author.Tests.{ltb-true, ltb-false, eqb-true, eqb-false, lt-ltb, ne-eqb, not-true, not-false}
 use Rattle.basis.specs.Lists.{sum, countUp, joined}
-use Rattle.basis.proofs.First.{clash}
+use Rattle.basis.proofs.Bools.{clash, or-false, not-both}
 use Rattle.meaning.specs.declared.Decoded.{Decoded}
 use Rattle.meaning.specs.declared.Decoded.the-variants.{Good, Bad}
 use Rattle.meaning.specs.Methods.{decoded, isBad}
@@ -21,7 +21,6 @@ use Rattle.meaning.specs.Calls.{badLine, lineTest, massFault, faultAt, massTest
 use Rattle.demands.specs.Valid.{LaidRight}
 use Rattle.demands.specs.Exactly.{at, atSmallest, numbered}
 use Rattle.demands.specs.Refusals.{BadLine, BelowZero, AboveLimit, MassFault}
-use Rattle.demands.proofs.Lists.{or-false, not-both}
 use Rattle.demands.proofs.Blocks.{Blocks, blocks-length, blocks-find, blocks-at}
 use Rattle.demands.proofs.Exactly.{Decides, decide-first}
 use Rattle.demands.proofs.RegisterTests.{decide-at-first, noSource, length-sources, source-at}

@@ -1,6 +1,6 @@
 -- For every way to deal an accepted register's sources out there are registers. Assumes nothing.
 use mathlib.Core.HLevel.{×-prop}
-use mathlib.Core.List.{List, [], _∷_, _++_, map, List·Permᴰ, List·Permᴰ·nil, List·Permᴰ·cons, List·Permᴰ·swap, List·Permᴰ·trans, Permᴰ·symm}
+use mathlib.Core.List.{List, [], _∷_, _++_, map, map-append, List·Permᴰ, List·Permᴰ·nil, List·Permᴰ·cons, List·Permᴰ·swap, List·Permᴰ·trans, Permᴰ·symm}
 use mathlib.Core.Logic.{∥∥₁-elim}
 use mathlib.Core.Path.{_≡_, refl, ap, ap₂, _∙_}
 use Prim.Native.Nat.{ℕ, _+_, _≤_}
@@ -9,6 +9,7 @@ use native.Mathlib.Nat.{le-trans}
 use native.Mathlib.Omega.{arith}
 use lib.ListN.{length, length-append}
 use Rattle.basis.specs.Lists.{sum, joined}
+use Rattle.basis.proofs.Lists.{sum-append}
 use Rattle.meaning.specs.declared.RawLine.{RawLine}
 use Rattle.meaning.specs.Register.{Source, yearOf, sourcesOf}
 use Rattle.demands.specs.Valid.{Each, LineFits, SourceFits, Encodable}
@@ -67,9 +68,7 @@ sum-perm w (List·Permᴰ·swap e f) = omega (arith, ap w e, ap w f)
 sum-perm w (List·Permᴰ·trans d f) = sum-perm w d ∙ sum-perm w f
 
 sum-both : {A : Type 0} (w : A → ℕ) (xs ys : List A) → sum (map w (xs ++ ys)) ≡ sum (map w xs) + sum (map w ys)
-unfolding sum
-sum-both w [] ys = omega arith
-sum-both w (x ∷ xs) ys = omega (arith, sum-both w xs ys)
+sum-both w xs ys = ap sum (map-append w xs ys) ∙ sum-append (map w xs) (map w ys)
 
 -- the sources of one deal are at most all of them
 pub record Bounded (year : ℕ) (all ss : List Source) : Type 0 where

@@ -13,9 +13,10 @@ use Rattle.basis.specs.declared.Verdict.{Verdict}
 use Rattle.basis.specs.declared.Verdict.the-variants.{Passes, Refuses}
 use Rattle.basis.specs.First.{first}
 use Rattle.basis.specs.Answers.{refuseIf, firstRefusal, answer, settled}
-use Rattle.basis.proofs.First.{clash, first-hits, first-misses, first-is}
+use Rattle.basis.proofs.First.{first-hits, first-misses, first-is}
 use Rattle.basis.proofs.Answers.{never}
 use Rattle.basis.proofs.Bytes.{length-splice}
+use Rattle.basis.proofs.Bools.{clash}
 use Rattle.meaning.specs.Calls.{roomTest, written}
 use Rattle.demands.specs.Valid.{Each}
 use Rattle.demands.specs.Demand1.{Among, FromTable, Answers}

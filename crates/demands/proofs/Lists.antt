@@ -1,5 +1,5 @@
 -- Laws of counting up, of `any`, of sums over a list. Assumes nothing.
-use mathlib.Core.Bool.{Bool, true, false, _||_, _&&_}
+use mathlib.Core.Bool.{Bool, true, false, _||_}
 use mathlib.Core.List.{List, [], _∷_, _++_, map}
 use mathlib.Core.Path.{_≡_, refl, sym, ap, _∙_}
 use Prim.Native.Nat.{ℕ, zero, suc, _+_, _*_, _≤_, _<_, zero-le, suc-le-suc}
@@ -8,30 +8,8 @@ use native.Mathlib.Nat.{add-zero, not-suc-le-zero, le-of-suc-le-suc}
 use native.Mathlib.Omega.{arith}
 use lib.ListN.{length, getD, take, replicate}
 use Rattle.basis.specs.Lists.{sum, countUp, any}
-use Rattle.basis.proofs.First.{clash}
+use Rattle.basis.proofs.Bools.{clash, or-true, or-false, false-or}
 use Rattle.demands.specs.Valid.{Each}
-
-pub and-true : (a b : Bool) → a && b ≡ true → (a ≡ true) × (b ≡ true)
-and-true true b e = (refl, e)
-and-true false b e = absurd (clash e refl)
-
-pub true-and : (a b : Bool) → a ≡ true → b ≡ true → a && b ≡ true
-true-and a b p q = rw p q
-
-pub or-false : (a b : Bool) → a || b ≡ false → (a ≡ false) × (b ≡ false)
-or-false true b e = absurd (clash refl e)
-or-false false b e = (refl, e)
-
-pub false-or : (a b : Bool) → a ≡ false → b ≡ false → a || b ≡ false
-false-or a b p q = rw p q
-
-pub or-true : (a : Bool) → a || true ≡ true
-or-true true = refl
-or-true false = refl
-
-pub not-both : (b : Bool) → (b ≡ true → ⊥) → b ≡ false
-not-both true h = absurd (h refl)
-not-both false h = refl
 
 -- none of the numbers counted up has the test
 pub none-counted : (test : ℕ → Bool) (n j : ℕ) → ((i : ℕ) → j ≤ i → i < j + n → test i ≡ false) → any test (countUp j n) ≡ false

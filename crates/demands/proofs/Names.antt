@@ -13,15 +13,15 @@ use borrow.Author.Tests.{ltb-true, eqb-true, lt-ltb, eq-eqb, ne-eqb}
 use Rattle.basis.specs.declared.Verdict.{Verdict}
 use Rattle.basis.specs.declared.Verdict.the-variants.{Passes, Refuses}
 use Rattle.basis.specs.Answers.{firstRefusal, passes}
-use Rattle.basis.proofs.First.{clash, first-hits, first-misses, first-is}
+use Rattle.basis.proofs.First.{first-hits, first-misses, first-is}
 use Rattle.basis.proofs.Answers.{never}
+use Rattle.basis.proofs.Bools.{clash, not-both}
 use Rattle.meaning.specs.declared.Part.{Part}
 use Rattle.meaning.specs.declared.Found.{Found}
 use Rattle.meaning.specs.Register.{sourceCount, sourceEntry, numberIn, nameLengthIn, namePlace, sourceAt, sourcesOf, registerTests}
 use Rattle.meaning.specs.Calls.{accepted, hasNumber, indexOf, holds, nameAt, found, inRegister, foundOfTwo}
 use Rattle.demands.specs.Refusals.{registerRows}
 use Rattle.demands.specs.Demand2.{Refused, Numbered, Absent, IsName, partOf, Names}
-use Rattle.demands.proofs.Lists.{not-both}
 use Rattle.demands.proofs.Exactly.{first-decides}
 use Rattle.demands.proofs.RegisterTests.{noSource, sourceNumber, length-sources, source-at, register-decides}
 use Rattle.demands.proofs.Registers.{sound-parts, Passed, passed, distinct-lt}

@@ -14,12 +14,12 @@ use Rattle.basis.specs.Bytes.{numberAt, ascii, startsWith}
 use Rattle.basis.specs.Lists.{countUp, stands}
 use Rattle.basis.specs.First.{first}
 use Rattle.basis.specs.Answers.{refuseIf, refuseAtFirst}
-use Rattle.basis.proofs.First.{clash}
 use Rattle.basis.proofs.Lists.{length-countUp}
+use Rattle.basis.proofs.Bools.{clash, and-true, or-false, either-or, or-either}
 use Rattle.meaning.specs.Register.{Source, registerTag, registerLayout, yearOf, isYear, sourceCount, mostSources, lineCount, mostLines, nameBytes, mostNameBytes, sourcesAt, linesAt, namesAt, wholeLength, headerTests, sourceEntry, numberIn, sourceAt, sourcesOf, lineStart, nameStart, misplaced, unsound, wrongSource, sourceTest, restTest, repeats, repeatTest, registerTests}
 use Rattle.demands.specs.Exactly.{at, atSmallest, numbered}
 use Rattle.demands.specs.Refusals.{headerRows, WrongSource, Repeated, registerRows}
-use Rattle.demands.proofs.Lists.{and-true, or-false, or-true, any-some, some-any, getD-counted}
+use Rattle.demands.proofs.Lists.{any-some, some-any, getD-counted}
 use Rattle.demands.proofs.Rows.{starts-tag, taken-starts}
 use Rattle.demands.proofs.Exactly.{Decides, DecideAll, decide-if, decide-first, decide-append}
 
@@ -30,15 +30,6 @@ decide-is a b number place =
 
 decide-above : (most a number place : ℕ) → Decides (refuseIf (ltb most a) number place) (at number place (most < a))
 decide-above most a number place = decide-if (ltb most a) number place (most < a) (ltb-true most a) (λ e l. clash (lt-ltb most a l) e)
-
--- one of two conditions
-pub or-either : (a b : Bool) → a || b ≡ true → (a ≡ true) ⊎ (b ≡ true)
-or-either true b e = inl refl
-or-either false b e = inr e
-
-either-or : (a b : Bool) → (a ≡ true) ⊎ (b ≡ true) → a || b ≡ true
-either-or a b (inl e) = rw e
-either-or a b (inr e) = rw e (or-true a)
 
 decide-either : (a b c d number place : ℕ) → Decides (refuseIf (not (eqb a b) || not (eqb c d)) number place) (at number place ((a ≢ b) ⊎ (c ≢ d)))
 decide-either a b c d number place =

@@ -13,7 +13,7 @@ use Rattle.basis.specs.declared.Verdict.the-variants.{Passes}
 use Rattle.basis.specs.Bytes.{Bytes}
 use Rattle.basis.specs.Lists.{any, without}
 use Rattle.basis.specs.Answers.{firstRefusal, answer}
-use Rattle.basis.proofs.First.{clash}
+use Rattle.basis.proofs.Bools.{clash, not-both}
 use Rattle.meaning.specs.Register.{mostSources}
 use Rattle.meaning.specs.Report.{Entry, reportLength, reportYear, entryCount, entriesOf}
 use Rattle.meaning.specs.Text.{reportText}
@@ -23,7 +23,6 @@ use Rattle.demands.specs.Valid.{Each, Entered, Ascending, Distinct, entr
 use Rattle.demands.specs.Demand1.{FromTable, Answers}
 use Rattle.demands.specs.Exactly.{Row, at, FirstOf, Exactly}
 use Rattle.demands.specs.Refusals.{NoReport, combinationRows, removalRows, checkRows, textLength, textRows}
-use Rattle.demands.proofs.Lists.{not-both}
 use Rattle.demands.proofs.Order.{ascending-distinct}
 use Rattle.demands.proofs.Exactly.{Decides, DecideAll, each-passes, passes-nowhere, exactly, exactly-written, zero-passes, answers, answers-verdict, Numbered, room-decides}
 use Rattle.demands.proofs.Reports.{length-report}

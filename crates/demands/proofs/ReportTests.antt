@@ -14,16 +14,17 @@ use Rattle.basis.specs.Bytes.{numberAt, Bytes}
 use Rattle.basis.specs.Lists.{stands, any}
 use Rattle.basis.specs.First.{first}
 use Rattle.basis.specs.Answers.{refuseIf}
-use Rattle.basis.proofs.First.{clash, first-hits, first-misses, first-is}
+use Rattle.basis.proofs.First.{first-hits, first-misses, first-is}
 use Rattle.basis.proofs.Answers.{never}
 use Rattle.basis.proofs.Lists.{length-sortedBy}
+use Rattle.basis.proofs.Bools.{clash, not-both}
 use Rattle.meaning.specs.Register.{mostSources}
 use Rattle.meaning.specs.Report.{Entry, reportYear, entryCount, entryAt, entryIn, entriesOf, inOrder, wellFormed}
 use Rattle.meaning.specs.Calls.{formTest, yearTest, sharedAt, sharedTest, countTest, numbered, absentTest}
 use Rattle.demands.specs.Valid.{Each, Entered, entryNumber, Reportable}
 use Rattle.demands.specs.Exactly.{Nowhere, at}
 use Rattle.demands.specs.Refusals.{NoReport, HasNumber, InBoth}
-use Rattle.demands.proofs.Lists.{not-both, any-some, some-any, any-map, at-each, each-append}
+use Rattle.demands.proofs.Lists.{any-some, some-any, any-map, at-each, each-append}
 use Rattle.demands.proofs.Order.{ascending-each, ascending-distinct, ascending-lt, sorted-each, sorted-ascending, distinct-append}
 use Rattle.demands.proofs.Exactly.{Decides, decide-if, refuses-number, refuses-place, refuses-both}
 use Rattle.demands.proofs.Reports.{noEntry, report-right}

@@ -11,6 +11,7 @@ use Rattle.basis.specs.Bytes.{Bytes}
 use Rattle.basis.specs.Lists.{any}
 use Rattle.basis.specs.declared.Verdict.the-variants.{Passes}
 use Rattle.basis.specs.Answers.{firstRefusal}
+use Rattle.basis.proofs.Bools.{or-false}
 use Rattle.meaning.specs.Register.{Source, yearOf, sourceCount, registerTests, encode}
 use Rattle.meaning.specs.Report.{reportLength}
 use Rattle.meaning.specs.Examples.{boiler}
@@ -18,7 +19,6 @@ use Rattle.meaning.proofs.Opened.{opened}
 use Rattle.demands.specs.Trees.{wrote}
 use Rattle.demands.specs.Demand3.{Dealt, calculation}
 use Rattle.demands.specs.Shown.{Shown, acid, zeros, lent, whole}
-use Rattle.demands.proofs.Lists.{or-false}
 use Rattle.demands.proofs.Registers.{passed}
 use Rattle.demands.proofs.WellFormed.{formed, reportable}
 use Rattle.demands.proofs.Laid.{laid-encodable}
