@@ -2,9 +2,11 @@
 use mathlib.Core.Bool.{Bool, true, false, cond}
 use mathlib.Core.List.{List, [], _∷_, _++_, List·Permᴰ, List·Permᴰ·nil, List·Permᴰ·cons, List·Permᴰ·swap, List·Permᴰ·trans, Permᴰ·refl}
 use mathlib.Core.Path.{_≡_, refl, ap, _∙_}
-use Prim.Native.Nat.{ℕ, zero, suc, _+_}
+use Prim.Native.Nat.{ℕ, zero, suc, _+_, _<_}
 use native.Mathlib.Nat.{add-assoc, zero-add}
+use native.Mathlib.Omega.{arith}
 use lib.Dec.{leb}
+use borrow.Author.Tests.{le-leb, lt-leb, leb-true, leb-false}
 use lib.ListN.{length}
 use Rattle.basis.specs.Lists.{sum, countUp, insertBy, sortedBy}
 
@@ -19,6 +21,26 @@ length-countUp i zero = refl
 length-countUp i (suc k) = ap suc (length-countUp (i + 1) k)
 
 module _ {A : Type 0} (key : A → ℕ) where
+  -- two insertions of different keys may change places
+  pub insertBy-below : (x y : A) (l : List A) → key x < key y → insertBy key x (insertBy key y l) ≡ insertBy key y (insertBy key x l)
+  unfolding insertBy
+  insertBy-below x y [] h = rw (le-leb (key x) (key y) (omega arith), lt-leb (key y) (key x) h)
+  insertBy-below x y (z ∷ zs) h = by (leb (key y) (key z)) refl (leb (key x) (key z)) refl (insertBy-below x y zs h)
+    where
+      up : leb (key x) (key y) ≡ true
+      up = le-leb (key x) (key y) (omega arith)
+
+      down : leb (key y) (key x) ≡ false
+      down = lt-leb (key y) (key x) h
+
+      by : (b : Bool) → leb (key y) (key z) ≡ b → (c : Bool) → leb (key x) (key z) ≡ c
+          → insertBy key x (insertBy key y zs) ≡ insertBy key y (insertBy key x zs)
+          → insertBy key x (cond b (y ∷ z ∷ zs) (z ∷ insertBy key y zs)) ≡ insertBy key y (cond c (x ∷ z ∷ zs) (z ∷ insertBy key x zs))
+      by true p true q e = rw (up, down, p)
+      by true p false q e = absurd (omega (arith, leb-true (key y) (key z) p, leb-false (key x) (key z) q))
+      by false p true q e = rw (q, down, p)
+      by false p false q e = rw (q, p, e)
+
   -- order loses nothing and makes nothing: the same elements, each as often
   pub insertBy-perm : (x : A) (xs : List A) → List·Permᴰ (insertBy key x xs) (x ∷ xs)
   unfolding insertBy

@@ -9,7 +9,8 @@ use native.Mathlib.Nat.{lt-trans, not-suc-le-zero, le-of-suc-le-suc}
 use native.Mathlib.Omega.{arith}
 use lib.Dec.{leb}
 use lib.ListN.{length, getD}
-use borrow.Author.Tests.{le-leb, lt-leb, leb-true, leb-false}
+use borrow.Author.Tests.{le-leb, leb-true, leb-false}
+use Rattle.basis.proofs.Lists.{insertBy-below}
 use Rattle.basis.specs.Lists.{insertBy, sortedBy}
 use Rattle.demands.specs.Valid.{Each, Ascending, Distinct}
 use Rattle.demands.proofs.Lists.{each-at, each-map, each-append}
@@ -28,32 +29,12 @@ each-perm P (List·Permᴰ·swap e f) p = (subst P f (p .1 .0), (subst P e (p .0
 each-perm P (List·Permᴰ·trans d f) p = each-perm P f (each-perm P d p)
 
 module _ {A : Type 0} (key : A → ℕ) where
-  -- two insertions of different keys may change places
-  insert-below : (x y : A) (l : List A) → key x < key y → insertBy key x (insertBy key y l) ≡ insertBy key y (insertBy key x l)
-  unfolding insertBy
-  insert-below x y [] h = rw (le-leb (key x) (key y) (omega arith), lt-leb (key y) (key x) h)
-  insert-below x y (z ∷ zs) h = by (leb (key y) (key z)) refl (leb (key x) (key z)) refl (insert-below x y zs h)
-    where
-      up : leb (key x) (key y) ≡ true
-      up = le-leb (key x) (key y) (omega arith)
-
-      down : leb (key y) (key x) ≡ false
-      down = lt-leb (key y) (key x) h
-
-      by : (b : Bool) → leb (key y) (key z) ≡ b → (c : Bool) → leb (key x) (key z) ≡ c
-          → insertBy key x (insertBy key y zs) ≡ insertBy key y (insertBy key x zs)
-          → insertBy key x (cond b (y ∷ z ∷ zs) (z ∷ insertBy key y zs)) ≡ insertBy key y (cond c (x ∷ z ∷ zs) (z ∷ insertBy key x zs))
-      by true p true q e = rw (up, down, p)
-      by true p false q e = absurd (omega (arith, leb-true (key y) (key z) p, leb-false (key x) (key z) q))
-      by false p true q e = rw (q, down, p)
-      by false p false q e = rw (q, p, e)
-
   insert-apart : (x y : A) (l : List A) → key x ≢ key y → insertBy key x (insertBy key y l) ≡ insertBy key y (insertBy key x l)
   insert-apart x y l n = by (decLt (key x) (key y))
     where
       by : Dec (key x < key y) → insertBy key x (insertBy key y l) ≡ insertBy key y (insertBy key x l)
-      by (yes h) = insert-below x y l h
-      by (no h) = sym (insert-below y x l (omega arith))
+      by (yes h) = insertBy-below key x y l h
+      by (no h) = sym (insertBy-below key y x l (omega arith))
 
   pub distinct-perm : {xs ys : List A} → List·Permᴰ xs ys → Distinct key xs → Distinct key ys
   distinct-perm List·Permᴰ·nil p = tt
