@@ -2,13 +2,13 @@
 use mathlib.Core.Bool.{Bool, true, false, cond}
 use mathlib.Core.List.{List, [], _∷_, _++_, List·Permᴰ, List·Permᴰ·nil, List·Permᴰ·cons, List·Permᴰ·swap, List·Permᴰ·trans, Permᴰ·refl}
 use mathlib.Core.Path.{_≡_, refl, ap, _∙_}
-use Prim.Native.Nat.{ℕ, zero, suc, _+_, _<_}
-use native.Mathlib.Nat.{add-assoc, zero-add}
+use Prim.Native.Nat.{ℕ, zero, suc, _+_, _<_, zero-le, suc-le-suc}
+use native.Mathlib.Nat.{add-assoc, zero-add, not-suc-le-zero, le-of-suc-le-suc}
 use native.Mathlib.Omega.{arith}
 use lib.Dec.{leb}
 use borrow.Author.Tests.{le-leb, lt-leb, leb-true, leb-false}
-use lib.ListN.{length}
-use Rattle.basis.specs.Lists.{sum, countUp, insertBy, sortedBy}
+use lib.ListN.{length, getD}
+use Rattle.basis.specs.Lists.{Each, sum, countUp, insertBy, sortedBy}
 
 pub sum-append : (ms ns : List ℕ) → sum (ms ++ ns) ≡ sum ms + sum ns
 unfolding sum
@@ -19,6 +19,28 @@ pub length-countUp : (i k : ℕ) → length (countUp i k) ≡ k
 unfolding countUp
 length-countUp i zero = refl
 length-countUp i (suc k) = ap suc (length-countUp (i + 1) k)
+
+-- what is said of each of a list
+pub each-map : {A : Type 0} {P Q : A → Type 0} → ((x : A) → P x → Q x) → (xs : List A) → Each P xs → Each Q xs
+each-map f [] p = tt
+each-map f (x ∷ xs) p = (f x (p .0), each-map f xs (p .1))
+
+pub each-append : {A : Type 0} (P : A → Type 0) (xs ys : List A) → Each P xs → Each P ys → Each P (xs ++ ys)
+each-append P [] ys p q = q
+each-append P (x ∷ xs) ys p q = (p .0, each-append P xs ys (p .1) q)
+
+pub each-split : {A : Type 0} (P : A → Type 0) (xs ys : List A) → Each P (xs ++ ys) → Each P xs × Each P ys
+each-split P [] ys h = (tt, h)
+each-split P (x ∷ xs) ys h = let r = each-split P xs ys (h .1) in ((h .0, r .0), r .1)
+
+pub each-at : {A : Type 0} (P : A → Type 0) (xs : List A) (d : A) → Each P xs → (i : ℕ) → i < length xs → P (getD xs i d)
+each-at P [] d h i l = absurd (not-suc-le-zero l)
+each-at P (x ∷ xs) d h zero l = h .0
+each-at P (x ∷ xs) d h (suc i) l = each-at P xs d (h .1) i (le-of-suc-le-suc l)
+
+pub at-each : {A : Type 0} (P : A → Type 0) (xs : List A) (d : A) → ((i : ℕ) → i < length xs → P (getD xs i d)) → Each P xs
+at-each P [] d h = tt
+at-each P (x ∷ xs) d h = (h 0 (suc-le-suc zero-le), at-each P xs d (λ i l. h (suc i) (suc-le-suc l)))
 
 module _ {A : Type 0} (key : A → ℕ) where
   -- two insertions of different keys may change places
@@ -69,3 +91,17 @@ module _ {A : Type 0} (key : A → ℕ) where
   unfolding sortedBy
   length-sortedBy [] = refl
   length-sortedBy (x ∷ xs) = length-insertBy x (sortedBy key xs) ∙ ap suc (length-sortedBy xs)
+
+  pub insertBy-each : (P : A → Type 0) (x : A) (xs : List A) → P x → Each P xs → Each P (insertBy key x xs)
+  unfolding insertBy
+  insertBy-each P x [] p q = (p, tt)
+  insertBy-each P x (y ∷ ys) p q = by (leb (key x) (key y)) (insertBy-each P x ys p (q .1))
+    where
+      by : (b : Bool) → Each P (insertBy key x ys) → Each P (cond b (x ∷ y ∷ ys) (y ∷ insertBy key x ys))
+      by true r = (p, q)
+      by false r = (q .0, r)
+
+  pub sortedBy-each : (P : A → Type 0) (xs : List A) → Each P xs → Each P (sortedBy key xs)
+  unfolding sortedBy
+  sortedBy-each P [] p = tt
+  sortedBy-each P (x ∷ xs) p = insertBy-each P x (sortedBy key xs) (p .0) (sortedBy-each P xs (p .1))

@@ -24,6 +24,11 @@ module _ {A : Type 0} where
   any test [] = false
   any test (x ∷ xs) = test x || any test xs
 
+  -- P of each of a list
+  abbrev pub Each : (A → Type 0) → List A → Type 0
+  Each P [] = Unit {0}
+  Each P (x ∷ xs) = P x × Each P xs
+
   -- x before the first whose key is not below its own
   unfoldable pub insertBy : (A → ℕ) → A → List A → List A
   insertBy key x [] = x ∷ []

@@ -11,12 +11,12 @@ use borrow.Author.Tests.{ltb-false, eqb-true, le-ltb, eq-eqb, not-false}
 use Rattle.basis.specs.declared.Verdict.{Verdict}
 use Rattle.basis.specs.declared.Verdict.the-variants.{Passes}
 use Rattle.basis.specs.Bytes.{Bytes}
-use Rattle.basis.specs.Lists.{any, joined}
+use Rattle.basis.specs.Lists.{Each, any, joined}
 use Rattle.basis.specs.Answers.{firstRefusal, answer}
 use Rattle.basis.specs.First.{first}
 use Rattle.basis.proofs.First.{first-misses, first-end}
 use Rattle.basis.proofs.Answers.{passed-at-all, passed-then}
-use Rattle.basis.proofs.Lists.{length-countUp, length-sortedBy}
+use Rattle.basis.proofs.Lists.{length-countUp, length-sortedBy, each-at, at-each, each-map, sortedBy-each}
 use Rattle.basis.proofs.Bools.{clash, and-true, not-both, or-either}
 use Rattle.meaning.specs.declared.Decoded.the-variants.{Bad}
 use Rattle.meaning.specs.Methods.{within, listed, isBad}
@@ -25,12 +25,12 @@ use Rattle.meaning.specs.Register.{Source, yearOf, sourceCount, mostSources, so
 use Rattle.meaning.specs.Report.{entryOf, inOrder, reportBytes, reportLength}
 use Rattle.meaning.specs.Calls.{roomTest, badLine, lineTest, massFault, faultAt, massTest, entriesFor, calculated, calculationTests, calculatedReport}
 use Rattle.meaning.proofs.Laws.{one-entry-each}
-use Rattle.demands.specs.Valid.{Each, Entered, Distinct, entryNumber, Reportable}
+use Rattle.demands.specs.Valid.{Entered, Distinct, entryNumber, Reportable}
 use Rattle.demands.specs.Demand1.{Among, Answers}
 use Rattle.demands.specs.Exactly.{Exactly}
 use Rattle.demands.specs.Refusals.{registerRows, calculationRows}
-use Rattle.demands.proofs.Lists.{any-some, some-any, any-append, append-any, each-at, at-each, each-map}
-use Rattle.demands.proofs.Order.{sorted-each, sorted-ascending}
+use Rattle.demands.proofs.Lists.{any-some, some-any, any-append, append-any}
+use Rattle.demands.proofs.Order.{sorted-ascending}
 use Rattle.demands.proofs.Rows.{numberAt-fits, bytes-drop}
 use Rattle.demands.proofs.Exactly.{passed-if, if-passed, each-passes, decide-append, DecideAll, Numbered, passed-append, passes-each, exactly-written, zero-passes, answers, room-decides}
 use Rattle.demands.proofs.Reports.{length-report}
@@ -110,7 +110,7 @@ sources-make y ss r n c d =
       inRange = r;
       count = rw (length-sortedBy entryNumber (map entryOf ss), length-map ss entryOf) n;
       order = sorted-ascending entryNumber 0 (map entryOf ss) (each-numbered ss c) (entries-distinct ss d);
-      each = sorted-each entryNumber Entered (map entryOf ss) (each-entered ss c);
+      each = sortedBy-each entryNumber Entered (map entryOf ss) (each-entered ss c);
     }
 
 -- lines that pass are good, source by source, and sums that pass are kept

@@ -12,18 +12,18 @@ use borrow.Author.Tests.{le-ltb, eq-eqb, eqb-true}
 use Rattle.basis.specs.declared.Verdict.{Verdict}
 use Rattle.basis.specs.declared.Verdict.the-variants.{Passes, Refuses}
 use Rattle.basis.specs.Bytes.{splice}
-use Rattle.basis.specs.Lists.{joined}
+use Rattle.basis.specs.Lists.{Each, joined}
 use Rattle.basis.specs.Answers.{firstRefusal, Outcome, settled}
-use Rattle.basis.proofs.Lists.{sortedBy-perm}
+use Rattle.basis.proofs.Lists.{sortedBy-perm, each-at, each-split}
 use Rattle.meaning.proofs.Laws.{length-inOrder}
 use Rattle.meaning.specs.Register.{Source, mostSources}
 use Rattle.meaning.specs.Report.{Entry, entryOf, inOrder, reportBytes, reportLength, reportYear, entryCount, wellFormed}
 use Rattle.meaning.specs.Calls.{written, roomTest, sharedTest, bothEntries, entriesFor, numbered, combined, combinationTests}
-use Rattle.demands.specs.Valid.{Each, Distinct, entryNumber, Reportable}
+use Rattle.demands.specs.Valid.{Distinct, entryNumber, Reportable}
 use Rattle.demands.specs.Exactly.{Row, Nowhere}
 use Rattle.demands.specs.Refusals.{InBoth}
 use Rattle.demands.specs.Trees.{Tree, leaves, wrote, Accepted, result, EachAccepted, Room}
-use Rattle.demands.proofs.Lists.{any-some, each-at, each-split}
+use Rattle.demands.proofs.Lists.{any-some}
 use Rattle.demands.proofs.Exactly.{Decides, passes-each, if-passed}
 use Rattle.demands.proofs.Reports.{noEntry, year-back, count-back, entries-back, report-right, report-bytes, length-report}
 use Rattle.demands.proofs.ReportTests.{has, shared-decides, both-make}

@@ -6,16 +6,16 @@ use mathlib.Core.Path.{_≡_, refl, sym, ap, ap₂, subst, _∙_}
 use Prim.Native.Nat.{ℕ, _<_}
 use native.Mathlib.Nat.{ℕ-set}
 use lib.ListN.{length}
+use Rattle.basis.proofs.Lists.{each-at}
 use Rattle.basis.specs.Bytes.{Bytes}
-use Rattle.basis.specs.Lists.{joined}
+use Rattle.basis.specs.Lists.{Each, joined}
 use Rattle.basis.specs.Answers.{Outcome}
 use Rattle.meaning.specs.Register.{Source, yearOf, sourcesOf}
 use Rattle.meaning.specs.Report.{reportBytes}
 use Rattle.meaning.specs.Calls.{entriesFor, calculated, combined, calculationTests, calculatedReport}
-use Rattle.demands.specs.Valid.{Each, Distinct, LaidRight}
+use Rattle.demands.specs.Valid.{Distinct, LaidRight}
 use Rattle.demands.specs.Trees.{Tree, report, combine, leaves, wrote, Accepted, result, EachAccepted}
 use Rattle.demands.specs.Demand3.{Lent, Dealt, calculation, Dealing}
-use Rattle.demands.proofs.Lists.{each-at}
 use Rattle.demands.proofs.RegisterTests.{noSource, sourceNumber, length-sources, source-at}
 use Rattle.demands.proofs.Registers.{Passed}
 use Rattle.demands.proofs.Calculated.{Calculable, accepted, accepting}

@@ -5,13 +5,13 @@ use Prim.Native.Nat.{ℕ, _+_, _*_, _≤_, _<_}
 use native.Mathlib.Omega.{arith}
 use lib.ListN.{length, getD, take, drop, length-append}
 use lib.Seq.{drop-at, drop-drop}
+use Rattle.basis.proofs.Lists.{each-append}
 use Rattle.basis.specs.Bytes.{numberAt, packed, Bytes}
-use Rattle.basis.specs.Lists.{sum, joined}
+use Rattle.basis.specs.Lists.{Each, sum, joined}
 use Rattle.basis.proofs.Bytes.{Fits, length-packed, numberAt-packed, packed-bytes, append-bytes}
 use Rattle.meaning.specs.declared.RawLine.{RawLine}
 use Rattle.meaning.specs.Register.{Source, mostLines, mostNameBytes, sourceLength, lineLength, lineOf, lineBytes, sourceEntries}
-use Rattle.demands.specs.Valid.{Each, LineFits, SourceFits}
-use Rattle.demands.proofs.Lists.{each-append}
+use Rattle.demands.specs.Valid.{LineFits, SourceFits}
 use Rattle.demands.proofs.Rows.{length-rows}
 
 -- bytes that stand in others at a place

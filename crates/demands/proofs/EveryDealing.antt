@@ -8,13 +8,12 @@ use native.Mathlib.Bridge.{le-prop}
 use native.Mathlib.Nat.{le-trans}
 use native.Mathlib.Omega.{arith}
 use lib.ListN.{length, length-append}
-use Rattle.basis.specs.Lists.{sum, joined}
-use Rattle.basis.proofs.Lists.{sum-append}
+use Rattle.basis.specs.Lists.{Each, sum, joined}
+use Rattle.basis.proofs.Lists.{sum-append, each-map, each-split}
 use Rattle.meaning.specs.declared.RawLine.{RawLine}
 use Rattle.meaning.specs.Register.{Source, yearOf, sourcesOf}
-use Rattle.demands.specs.Valid.{Each, LineFits, SourceFits, Encodable}
+use Rattle.demands.specs.Valid.{LineFits, SourceFits, Encodable}
 use Rattle.demands.specs.Demand3.{EveryDealing}
-use Rattle.demands.proofs.Lists.{each-map, each-split}
 use Rattle.demands.proofs.Order.{each-perm}
 use Rattle.demands.proofs.Trees.{length-perm}
 use Rattle.demands.proofs.Calculated.{accepted}

@@ -8,6 +8,7 @@ use native.Mathlib.Omega.{arith}
 use lib.Dec.{ltb}
 use lib.ListN.{length}
 use borrow.Author.Tests.{ltb-true, ltb-false, lt-ltb}
+use Rattle.basis.specs.Lists.{Each}
 use Rattle.basis.specs.declared.Answer.{Answer}
 use Rattle.basis.specs.declared.Verdict.{Verdict}
 use Rattle.basis.specs.declared.Verdict.the-variants.{Passes, Refuses}
@@ -18,7 +19,6 @@ use Rattle.basis.proofs.Answers.{never}
 use Rattle.basis.proofs.Bytes.{length-splice}
 use Rattle.basis.proofs.Bools.{clash}
 use Rattle.meaning.specs.Calls.{roomTest, written}
-use Rattle.demands.specs.Valid.{Each}
 use Rattle.demands.specs.Demand1.{Among, FromTable, Answers}
 use Rattle.demands.specs.Exactly.{Row, Nowhere, at, atSmallest, FirstOf, Exactly}
 

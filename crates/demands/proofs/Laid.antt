@@ -8,11 +8,11 @@ use native.Mathlib.Omega.{arith}
 use lib.ListN.{length, take, drop, length-drop, length-map}
 use lib.Seq.{drop-drop, take-add, take-all, length-take-le}
 use Rattle.basis.specs.Bytes.{numberAt, packed, Bytes}
-use Rattle.basis.specs.Lists.{sum, countUp, joined}
+use Rattle.basis.specs.Lists.{Each, sum, countUp, joined}
 use Rattle.basis.proofs.Lists.{length-countUp}
 use Rattle.meaning.specs.declared.RawLine.{RawLine}
 use Rattle.meaning.specs.Register.{yearOf, sourceCount, lineCount, nameBytes, sourceLength, lineLength, sourcesAt, linesAt, namesAt, wholeLength, lineOf, lineAt, sourceEntry, firstLineIn, lineCountIn, nameLengthIn, namePlace, sourceAt, sourcesOf, lineStart, nameStart, lineBytes, sourceEntries, registerHeader, encode}
-use Rattle.demands.specs.Valid.{Each, LaidRight, LineFits, SourceFits, Encodable}
+use Rattle.demands.specs.Valid.{LaidRight, LineFits, SourceFits, Encodable}
 use Rattle.demands.proofs.Rows.{numberAt-drop, numberAt-fits, unpacked, packed-unpacked, bytes-drop, bytes-take, write-rows}
 use Rattle.demands.proofs.RegisterTests.{length-sources}
 use Rattle.demands.proofs.Calculation.{standing, next-line}

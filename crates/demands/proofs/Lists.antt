@@ -7,9 +7,8 @@ use native.Mathlib.Decide.{decLt}
 use native.Mathlib.Nat.{add-zero, not-suc-le-zero, le-of-suc-le-suc}
 use native.Mathlib.Omega.{arith}
 use lib.ListN.{length, getD, take, replicate}
-use Rattle.basis.specs.Lists.{sum, countUp, any}
+use Rattle.basis.specs.Lists.{Each, sum, countUp, any}
 use Rattle.basis.proofs.Bools.{clash, or-true, or-false, false-or}
-use Rattle.demands.specs.Valid.{Each}
 
 -- none of the numbers counted up has the test
 pub none-counted : (test : ℕ → Bool) (n j : ℕ) → ((i : ℕ) → j ≤ i → i < j + n → test i ≡ false) → any test (countUp j n) ≡ false
@@ -44,15 +43,6 @@ counted-list f d (x ∷ xs) j h =
     let e : f j ≡ x = ap f (sym (add-zero j)) ∙ h 0 (suc-le-suc zero-le) in
     let q : (i : ℕ) → j + 1 + i ≡ j + suc i = λ i. omega arith in
     rw (e, counted-list f d xs (j + 1) (λ i l. ap f (q i) ∙ h (suc i) (suc-le-suc l)))
-
-pub each-at : {A : Type 0} (P : A → Type 0) (xs : List A) (d : A) → Each P xs → (i : ℕ) → i < length xs → P (getD xs i d)
-each-at P [] d h i l = absurd (not-suc-le-zero l)
-each-at P (x ∷ xs) d h zero l = h .0
-each-at P (x ∷ xs) d h (suc i) l = each-at P xs d (h .1) i (le-of-suc-le-suc l)
-
-pub at-each : {A : Type 0} (P : A → Type 0) (xs : List A) (d : A) → ((i : ℕ) → i < length xs → P (getD xs i d)) → Each P xs
-at-each P [] d h = tt
-at-each P (x ∷ xs) d h = (h 0 (suc-le-suc zero-le), at-each P xs d (λ i l. h (suc i) (suc-le-suc l)))
 
 pub sum-widths : (w n k : ℕ) → k ≤ n → sum (take k (replicate n w)) ≡ w * k
 unfolding sum
@@ -102,15 +92,3 @@ append-any test (x ∷ xs) ys e f =
     let h = or-false (test x) (any test xs) e in
     false-or (test x) (any test (xs ++ ys)) (h .0) (append-any test xs ys (h .1) f)
 
--- what is said of each of a list
-pub each-map : {A : Type 0} {P Q : A → Type 0} → ((x : A) → P x → Q x) → (xs : List A) → Each P xs → Each Q xs
-each-map f [] p = tt
-each-map f (x ∷ xs) p = (f x (p .0), each-map f xs (p .1))
-
-pub each-append : {A : Type 0} (P : A → Type 0) (xs ys : List A) → Each P xs → Each P ys → Each P (xs ++ ys)
-each-append P [] ys p q = q
-each-append P (x ∷ xs) ys p q = (p .0, each-append P xs ys (p .1) q)
-
-pub each-split : {A : Type 0} (P : A → Type 0) (xs ys : List A) → Each P (xs ++ ys) → Each P xs × Each P ys
-each-split P [] ys h = (tt, h)
-each-split P (x ∷ xs) ys h = let r = each-split P xs ys (h .1) in ((h .0, r .0), r .1)

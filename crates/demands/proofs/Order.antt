@@ -10,10 +10,9 @@ use native.Mathlib.Omega.{arith}
 use lib.Dec.{leb}
 use lib.ListN.{length, getD}
 use borrow.Author.Tests.{le-leb, leb-true, leb-false}
-use Rattle.basis.proofs.Lists.{insertBy-below}
-use Rattle.basis.specs.Lists.{insertBy, sortedBy}
-use Rattle.demands.specs.Valid.{Each, Ascending, Distinct}
-use Rattle.demands.proofs.Lists.{each-at, each-map, each-append}
+use Rattle.basis.proofs.Lists.{insertBy-below, sortedBy-each, each-map, each-append, each-at}
+use Rattle.basis.specs.Lists.{Each, insertBy, sortedBy}
+use Rattle.demands.specs.Valid.{Ascending, Distinct}
 
 lt-ne : (m n : ℕ) → m < n → m ≡ n → ⊥
 lt-ne m n l e = omega arith
@@ -84,25 +83,11 @@ module _ {A : Type 0} (key : A → ℕ) where
       by true e later = (l, (lt-of-le-ne (leb-true (key x) (key y) e) (d .0), a .1))
       by false e later = (a .0, later (leb-false (key x) (key y) e))
 
-  insert-each : (P : A → Type 0) (x : A) (xs : List A) → P x → Each P xs → Each P (insertBy key x xs)
-  unfolding insertBy
-  insert-each P x [] p q = (p, tt)
-  insert-each P x (y ∷ ys) p q = by (leb (key x) (key y)) (insert-each P x ys p (q .1))
-    where
-      by : (b : Bool) → Each P (insertBy key x ys) → Each P (cond b (x ∷ y ∷ ys) (y ∷ insertBy key x ys))
-      by true r = (p, q)
-      by false r = (q .0, r)
-
-  pub sorted-each : (P : A → Type 0) (xs : List A) → Each P xs → Each P (sortedBy key xs)
-  unfolding sortedBy
-  sorted-each P [] p = tt
-  sorted-each P (x ∷ xs) p = insert-each P x (sortedBy key xs) (p .0) (sorted-each P xs (p .1))
-
   pub sorted-ascending : (n : ℕ) (xs : List A) → Each (λ y. n < key y) xs → Distinct key xs → Ascending key n (sortedBy key xs)
   unfolding sortedBy
   sorted-ascending n [] l d = tt
   sorted-ascending n (x ∷ xs) l d =
-      insert-ascending n x (sortedBy key xs) (l .0) (sorted-each (λ y. key x ≢ key y) xs (d .0)) (sorted-ascending n xs (l .1) (d .1))
+      insert-ascending n x (sortedBy key xs) (l .0) (sortedBy-each key (λ y. key x ≢ key y) xs (d .0)) (sorted-ascending n xs (l .1) (d .1))
 
   pub ascending-lt : (n : ℕ) (xs : List A) (d : A) → Ascending key n xs → (i k : ℕ) → i < k → k < length xs → key (getD xs i d) < key (getD xs k d)
   ascending-lt n [] d a i k l m = absurd (not-suc-le-zero m)

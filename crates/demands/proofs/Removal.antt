@@ -8,13 +8,14 @@ use native.Mathlib.Nat.{not-suc-le-zero, le-of-suc-le-suc}
 use native.Mathlib.Omega.{arith}
 use lib.ListN.{length, getD}
 use borrow.Author.Tests.{eq-eqb, ne-eqb}
-use Rattle.basis.specs.Lists.{any, without}
+use Rattle.basis.proofs.Lists.{each-at}
+use Rattle.basis.specs.Lists.{Each, any, without}
 use Rattle.meaning.specs.Report.{Entry, inOrder, reportBytes, reportLength, reportYear, entryCount, entriesOf, wellFormed}
 use Rattle.meaning.specs.Calls.{roomTest, numbered, combined, removed, removalTests}
-use Rattle.demands.specs.Valid.{Each, Entered, Distinct, entryNumber, Reportable}
+use Rattle.demands.specs.Valid.{Entered, Distinct, entryNumber, Reportable}
 use Rattle.demands.specs.Trees.{wrote, Accepted}
 use Rattle.demands.specs.Demand3.{GoodReport, Gives, Neutral, Again}
-use Rattle.demands.proofs.Lists.{each-at, some-any}
+use Rattle.demands.proofs.Lists.{some-any}
 use Rattle.demands.proofs.Order.{ascending-each, ascending-distinct, ascending-sorted, distinct-perm, sorted-perm}
 use Rattle.demands.proofs.Exactly.{passes-each, if-passed}
 use Rattle.demands.proofs.Reports.{year-back, count-back, entries-back, report-right, length-report}

@@ -11,7 +11,7 @@ use borrow.Author.Tests.{eqb-true, ne-eqb, not-true, not-false}
 use Rattle.basis.specs.declared.Verdict.{Verdict}
 use Rattle.basis.specs.declared.Verdict.the-variants.{Passes}
 use Rattle.basis.specs.Bytes.{Bytes}
-use Rattle.basis.specs.Lists.{any, without}
+use Rattle.basis.specs.Lists.{Each, any, without}
 use Rattle.basis.specs.Answers.{firstRefusal, answer}
 use Rattle.basis.proofs.Bools.{clash, not-both}
 use Rattle.meaning.specs.Register.{mostSources}
@@ -19,7 +19,7 @@ use Rattle.meaning.specs.Report.{Entry, reportLength, reportYear, entryCount, e
 use Rattle.meaning.specs.Text.{reportText}
 use Rattle.meaning.specs.Calls.{formTest, sharedTest, countTest, roomTest, bothEntries, numbered, absentTest, combined, removed, checked, text, combinationTests, combinedReport, removalTests, removedReport}
 use Rattle.meaning.proofs.Laws.{length-inOrder}
-use Rattle.demands.specs.Valid.{Each, Entered, Ascending, Distinct, entryNumber, Reportable}
+use Rattle.demands.specs.Valid.{Entered, Ascending, Distinct, entryNumber, Reportable}
 use Rattle.demands.specs.Demand1.{FromTable, Answers}
 use Rattle.demands.specs.Exactly.{Row, at, FirstOf, Exactly}
 use Rattle.demands.specs.Refusals.{NoReport, combinationRows, removalRows, checkRows, textLength, textRows}

@@ -11,21 +11,21 @@ use lib.ListN.{length, getD, length-map, length-append, List·getD-map}
 use borrow.Author.Tests.{ltb-true, ltb-false, eqb-true, eqb-false, lt-ltb, eq-eqb, not-true, not-false}
 use Rattle.basis.specs.declared.Verdict.the-variants.{Passes, Refuses}
 use Rattle.basis.specs.Bytes.{numberAt, Bytes}
-use Rattle.basis.specs.Lists.{stands, any}
+use Rattle.basis.specs.Lists.{Each, stands, any}
 use Rattle.basis.specs.First.{first}
 use Rattle.basis.specs.Answers.{refuseIf}
 use Rattle.basis.proofs.First.{first-hits, first-misses, first-is}
 use Rattle.basis.proofs.Answers.{never}
-use Rattle.basis.proofs.Lists.{length-sortedBy}
+use Rattle.basis.proofs.Lists.{length-sortedBy, at-each, each-append, sortedBy-each}
 use Rattle.basis.proofs.Bools.{clash, not-both}
 use Rattle.meaning.specs.Register.{mostSources}
 use Rattle.meaning.specs.Report.{Entry, reportYear, entryCount, entryAt, entryIn, entriesOf, inOrder, wellFormed}
 use Rattle.meaning.specs.Calls.{formTest, yearTest, sharedAt, sharedTest, countTest, numbered, absentTest}
-use Rattle.demands.specs.Valid.{Each, Entered, entryNumber, Reportable}
+use Rattle.demands.specs.Valid.{Entered, entryNumber, Reportable}
 use Rattle.demands.specs.Exactly.{Nowhere, at}
 use Rattle.demands.specs.Refusals.{NoReport, HasNumber, InBoth}
-use Rattle.demands.proofs.Lists.{any-some, some-any, any-map, at-each, each-append}
-use Rattle.demands.proofs.Order.{ascending-each, ascending-distinct, ascending-lt, sorted-each, sorted-ascending, distinct-append}
+use Rattle.demands.proofs.Lists.{any-some, some-any, any-map}
+use Rattle.demands.proofs.Order.{ascending-each, ascending-distinct, ascending-lt, sorted-ascending, distinct-append}
 use Rattle.demands.proofs.Exactly.{Decides, decide-if, refuses-number, refuses-place, refuses-both}
 use Rattle.demands.proofs.Reports.{noEntry, report-right}
 use Rattle.demands.proofs.WellFormed.{formed, reportable, report-again, count-is, entry-at}
@@ -189,7 +189,7 @@ both-make xs zs v w a l =
           sorted-ascending entryNumber 0 (xs ++ zs)
           (each-append (λ e. 0 < entryNumber e) xs zs (ascending-each entryNumber 0 xs (v .order)) (ascending-each entryNumber 0 zs (w .order)))
           (distinct-append entryNumber xs zs (ascending-distinct entryNumber 0 xs (v .order)) (ascending-distinct entryNumber 0 zs (w .order)) a);
-      each = sorted-each entryNumber Entered (xs ++ zs) (each-append Entered xs zs (v .each) (w .each));
+      each = sortedBy-each entryNumber Entered (xs ++ zs) (each-append Entered xs zs (v .each) (w .each));
     }
 
 -- 12

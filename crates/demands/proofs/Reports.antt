@@ -10,15 +10,15 @@ use lib.ListN.{length, getD, take, drop, replicate, length-append, length-map, l
 use lib.Seq.{drop-at, drop-drop, getD-append-seam}
 use borrow.Author.Tests.{le-ltb, le-leb, lt-leb, eq-eqb}
 use Rattle.basis.specs.Bytes.{numberAt, packed, Bytes, startsWith}
-use Rattle.basis.specs.Lists.{sum, countUp, joined}
+use Rattle.basis.specs.Lists.{Each, sum, countUp, joined}
 use Rattle.basis.proofs.Bytes.{Fits, length-packed, numberAt-packed, packed-bytes, append-bytes}
-use Rattle.basis.proofs.Lists.{length-countUp}
+use Rattle.basis.proofs.Lists.{length-countUp, each-at}
 use Rattle.meaning.specs.Methods.{within}
 use Rattle.meaning.specs.Masses.{gasCount, gases, warming, weighed, equivalent, limit}
 use Rattle.meaning.specs.Register.{mostSources}
 use Rattle.meaning.specs.Report.{Entry, figures, figureCount, figure, totals, reportTag, reportLayout, entriesAt, entryLength, reportLength, reportHeader, entryBytes, reportBytes, reportYear, entryCount, totalAt, entryAt, figureIn, entryIn, entriesOf, headerRight, numberBefore, wrongEntry, wrongTotal, wellFormed}
-use Rattle.demands.specs.Valid.{Each, Entered, Ascending, entryNumber, Reportable}
-use Rattle.demands.proofs.Lists.{none-counted, getD-counted, counted-list, each-at, sum-widths, sum-bounded}
+use Rattle.demands.specs.Valid.{Entered, Ascending, entryNumber, Reportable}
+use Rattle.demands.proofs.Lists.{none-counted, getD-counted, counted-list, sum-widths, sum-bounded}
 use Rattle.demands.proofs.Rows.{tag-starts, numberAt-behind, read-rows, row-at, length-rows, each-bytes, joined-bytes}
 
 -- Figures and totals. An entry's figures are as many as the gases and one, and none is above the limit.

@@ -6,14 +6,13 @@ use native.Mathlib.Nat.{not-suc-le-zero, le-of-suc-le-suc}
 use native.Mathlib.Omega.{arith}
 use lib.ListN.{length, getD, length-map, List·getD-map}
 use Rattle.basis.specs.Lists.{insertBy, sortedBy}
-use Rattle.basis.proofs.Lists.{sortedBy-perm}
+use Rattle.basis.proofs.Lists.{sortedBy-perm, each-at}
 use Rattle.meaning.specs.Register.{Source, yearOf, sourceCount, sourcesOf}
 use Rattle.meaning.specs.Report.{entryOf, inOrder, reportBytes}
 use Rattle.meaning.specs.Calls.{entriesFor, removed}
 use Rattle.demands.specs.Valid.{entryNumber}
 use Rattle.demands.specs.Trees.{wrote, Accepted}
 use Rattle.demands.specs.Demand3.{calculation, Gives, SourceAgain}
-use Rattle.demands.proofs.Lists.{each-at}
 use Rattle.demands.proofs.RegisterTests.{length-sources}
 use Rattle.demands.proofs.Calculated.{Calculable}
 use Rattle.demands.proofs.Combined.{Sources, made-of, length-entries}

@@ -5,11 +5,11 @@ use mathlib.Core.Path.{_≡_, refl, sym, ap, ap₂, subst, subst⁻¹, subst₂,
 use Prim.Native.Nat.{ℕ, suc, _+_, _≤_}
 use native.Mathlib.Omega.{arith}
 use lib.ListN.{length, length-append}
-use Rattle.basis.specs.Lists.{joined, sortedBy}
+use Rattle.basis.proofs.Lists.{each-split}
+use Rattle.basis.specs.Lists.{Each, joined, sortedBy}
 use Rattle.basis.specs.Answers.{Outcome}
-use Rattle.demands.specs.Valid.{Each, Distinct}
+use Rattle.demands.specs.Valid.{Distinct}
 use Rattle.demands.specs.Trees.{Tree, report, combine, leaves, wrote, Accepted, result, EachAccepted, entries, Room}
-use Rattle.demands.proofs.Lists.{each-split}
 use Rattle.demands.proofs.Order.{each-perm, distinct-perm, sorted-perm}
 
 pub distinct-split : {A : Type 0} (key : A → ℕ) (xs ys : List A) → Distinct key (xs ++ ys) → Distinct key xs × Distinct key ys

@@ -10,14 +10,14 @@ use lib.Seq.{take-add, take-all}
 use borrow.Author.Tests.{ltb-false, leb-true, leb-false, eqb-true, not-true, not-false}
 use Rattle.basis.specs.Bytes.{numberAt, packed, Bytes, startsWith}
 use Rattle.basis.specs.Lists.{sum, countUp, joined}
-use Rattle.basis.proofs.Lists.{length-countUp}
+use Rattle.basis.proofs.Lists.{length-countUp, at-each}
 use Rattle.basis.proofs.Bools.{and-true, or-false}
 use Rattle.meaning.specs.Methods.{within}
 use Rattle.meaning.specs.Masses.{gasCount, gases, equivalent, limit}
 use Rattle.meaning.specs.Register.{mostSources}
 use Rattle.meaning.specs.Report.{Entry, figures, figureCount, totals, reportTag, reportLayout, entriesAt, entryLength, reportLength, reportHeader, entryBytes, reportBytes, reportYear, entryCount, totalAt, entryAt, figureIn, entryIn, entriesOf, headerRight, numberBefore, wrongEntry, wrongTotal, wellFormed}
 use Rattle.demands.specs.Valid.{Entered, Reportable}
-use Rattle.demands.proofs.Lists.{counted-none, getD-counted, counted-list, at-each}
+use Rattle.demands.proofs.Lists.{counted-none, getD-counted, counted-list}
 use Rattle.demands.proofs.Reports.{noEntry, prior, at-ascending, headerWidths, headerNumbers, length-totals}
 use Rattle.demands.proofs.Rows.{starts-tag, numberAt-drop, numberAt-fits, unpacked, unpacked-same, packed-unpacked, bytes-drop, write-rows}
 

@@ -9,7 +9,7 @@ use Prim.Native.Nat.{ℕ, _+_, _*_, _-_, _^_, _≤_, _<_}
 use lib.ListN.{length, getD, take, drop}
 use Rattle.basis.specs.declared.Answer.{Answer}
 use Rattle.basis.specs.Bytes.{Bytes, splice}
-use Rattle.basis.specs.Lists.{sum, without}
+use Rattle.basis.specs.Lists.{Each, sum, without}
 use Rattle.basis.specs.Answers.{Outcome, Gives, Shows}
 use Rattle.meaning.specs.declared.Part.{Part}
 use Rattle.meaning.specs.declared.Found.{Found}
@@ -17,7 +17,7 @@ use Rattle.meaning.specs.Masses.{gasCount, divisors, carbonDioxide, added, take
 use Rattle.meaning.specs.Register.{Source, yearOf, sourceCount, sourceEntry, numberIn, namePlace, sourceAt, sourcesOf, decodedLines, encode}
 use Rattle.meaning.specs.Report.{Entry, entryOf, figure, figureCount, totalAt, reportBytes, reportLength, reportYear, entryCount, entriesOf, wellFormed}
 use Rattle.meaning.specs.Calls.{calculated, combined, removed, checked, text, found, foundOfTwo, numbered}
-use Rattle.demands.specs.Valid.{Each, Ascending, entryNumber, Reportable, LaidRight, Encodable}
+use Rattle.demands.specs.Valid.{Ascending, entryNumber, Reportable, LaidRight, Encodable}
 use Rattle.demands.specs.Exactly.{FirstOf, Exactly}
 use Rattle.demands.specs.Refusals.{registerRows, calculationRows, combinationRows, removalRows, checkRows, textRows, textLength}
 use Rattle.demands.specs.Trees.{Accepted}

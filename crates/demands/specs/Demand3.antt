@@ -8,12 +8,12 @@ use mathlib.Core.Path.{_≡_}
 use Prim.Native.Nat.{ℕ, _-_, _≤_, _<_}
 use lib.ListN.{length, getD}
 use Rattle.basis.specs.Bytes.{Bytes}
-use Rattle.basis.specs.Lists.{joined}
+use Rattle.basis.specs.Lists.{Each, joined}
 use Rattle.basis.specs.Answers.{Outcome}
 use Rattle.meaning.specs.Register.{Source, yearOf, sourceCount, sourcesOf, encode}
 use Rattle.meaning.specs.Report.{Entry, reportBytes, reportLength, reportYear, entryCount, entriesOf, wellFormed}
 use Rattle.meaning.specs.Calls.{calculated, combined, removed}
-use Rattle.demands.specs.Valid.{Each, LaidRight}
+use Rattle.demands.specs.Valid.{LaidRight}
 use Rattle.demands.specs.Trees.{Tree, leaves, wrote, Accepted, result, EachAccepted, Room}
 
 -- a register, and the buffer that is lent to its calculation

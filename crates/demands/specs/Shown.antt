@@ -4,13 +4,13 @@ use mathlib.Core.Path.{_≡_}
 use Prim.Native.Nat.{ℕ}
 use lib.ListN.{replicate}
 use Rattle.basis.specs.Bytes.{Bytes, ascii}
-use Rattle.basis.specs.Lists.{joined}
+use Rattle.basis.specs.Lists.{Each, joined}
 use Rattle.meaning.specs.Register.{Source, sourcesOf, encode}
 use Rattle.meaning.specs.Report.{entriesOf, entryCount, reportLength, totalAt}
 use Rattle.meaning.specs.Calls.{combined, removed}
 use Rattle.meaning.specs.Starred.{line}
 use Rattle.meaning.specs.Examples.{boiler}
-use Rattle.demands.specs.Valid.{Each, Reportable, Encodable}
+use Rattle.demands.specs.Valid.{Reportable, Encodable}
 use Rattle.demands.specs.Trees.{Tree, report, combine, leaves, wrote, Accepted, result, Room}
 use Rattle.demands.specs.Demand2.{Refused, Numbered, Nearest}
 use Rattle.demands.specs.Demand3.{Lent, Dealt, calculation, GoodReport}

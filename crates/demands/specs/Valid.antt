@@ -6,16 +6,11 @@ use mathlib.Core.Path.{_≡_}
 use Prim.Native.Nat.{ℕ, _≤_, _<_, _^_}
 use lib.ListN.{length, take}
 use Rattle.basis.specs.Bytes.{numberAt, ascii, Bytes}
-use Rattle.basis.specs.Lists.{joined}
+use Rattle.basis.specs.Lists.{Each, joined}
 use Rattle.meaning.specs.declared.RawLine.{RawLine}
 use Rattle.meaning.specs.Masses.{gasCount, equivalent, limit}
 use Rattle.meaning.specs.Register.{Source, registerLayout, yearOf, sourceCount, mostSources, lineCount, mostLines, nameBytes, mostNameBytes, sourcesAt, linesAt, namesAt, wholeLength, misplaced, lineStart, nameStart}
 use Rattle.meaning.specs.Report.{Entry}
-
--- P of each of a list
-abbrev pub Each : {A : Type 0} → (A → Type 0) → List A → Type 0
-Each P [] = Unit {0}
-Each P (x ∷ xs) = P x × Each P xs
 
 -- an entry that a report may have: its number fits four bytes, its method is one of the six, it has a mass for each gas, and its
 -- equivalent keeps the limit
