@@ -91,4 +91,3 @@ append-any test [] ys e f = f
 append-any test (x ∷ xs) ys e f =
     let h = or-false (test x) (any test xs) e in
     false-or (test x) (any test (xs ++ ys)) (h .0) (append-any test xs ys (h .1) f)
-
