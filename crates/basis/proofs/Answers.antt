@@ -25,6 +25,15 @@ pub record FirstToRefuse (tests : List Verdict) (number place i : ℕ) : Type 0 
 pub never : {n p : ℕ} → Passes ≡ Refuses n p → ⊥
 never e = let z : _≡_ {A = ℕ} 0 1 = cc in omega arith
 
+pub refuses-number : {m q n p : ℕ} → Refuses m q ≡ Refuses n p → n ≡ m
+refuses-number e = cc
+
+pub refuses-place : {m q n p : ℕ} → Refuses m q ≡ Refuses n p → p ≡ q
+refuses-place e = cc
+
+pub refuses-both : {m q n p : ℕ} → n ≡ m → p ≡ q → Refuses m q ≡ Refuses n p
+refuses-both e f = cc
+
 pub refused-by : (tests : List Verdict) (number place i : ℕ) → FirstToRefuse tests number place i → firstRefusal tests ≡ Refuses number place
 unfolding firstRefusal
 refused-by [] number place i f = absurd (not-suc-le-zero (f .within))
@@ -83,32 +92,37 @@ passed-exactly tests = (each tests, all tests)
     all (Passes ∷ ts) h = all ts (λ i. h (suc i))
     all (Refuses n p ∷ ts) h = absurd (never (sym (h 0)))
 
--- a test of each index below a count refuses exactly at the first that is wrong
-pub refused-at-first : (number : ℕ) (wrong : ℕ → Bool) (count i : ℕ)
-    → refuseAtFirst number wrong count ≡ Refuses number i ↔ ((i < count) × (wrong i ≡ true) × NoneBelow wrong i)
-unfolding refuseAtFirst
-refused-at-first number wrong count i = (λ e. by (ltb (first wrong count) count) refl e, λ h. at (h .0) (h .1) (h .2))
-  where
-    by : (b : Bool) → ltb (first wrong count) count ≡ b → refuseIf b number (first wrong count) ≡ Refuses number i
-        → (i < count) × (wrong i ≡ true) × NoneBelow wrong i
-    by true t e =
-        let f : first wrong count ≡ i = cc in
-        let l : first wrong count < count = ltb-true (first wrong count) count t in
-        (rw f at l, rw f at (first-hits wrong count l), rw f at (first-misses wrong count))
-    by false t e = absurd (never e)
+-- a test at the first index that is wrong refuses exactly so: with the number and the place of the only index that is wrong with none before it
+module _ (wrong : ℕ → Bool) (count : ℕ) where
+  pub refused-at-first : (number place : ℕ → ℕ) (n p : ℕ)
+      → (refuseIf (ltb (first wrong count) count) (number (first wrong count)) (place (first wrong count)) ≡ Refuses n p)
+      ↔ ((i : ℕ) × (i < count) × (wrong i ≡ true) × NoneBelow wrong i × (n ≡ number i) × (p ≡ place i))
+  refused-at-first number place n p = (λ e. by (ltb (first wrong count) count) refl e, λ r. at (r .0) (r .1) (r .2) (r .3) (r .4) (r .5))
+    where
+      by : (b : Bool) → ltb (first wrong count) count ≡ b → refuseIf b (number (first wrong count)) (place (first wrong count)) ≡ Refuses n p
+          → (i : ℕ) × (i < count) × (wrong i ≡ true) × NoneBelow wrong i × (n ≡ number i) × (p ≡ place i)
+      by true t e =
+          let l : first wrong count < count = ltb-true (first wrong count) count t in
+          (first wrong count, l, first-hits wrong count l, first-misses wrong count, refuses-number e, refuses-place e)
+      by false t e = absurd (never e)
 
-    at : i < count → wrong i ≡ true → NoneBelow wrong i → refuseAtFirst number wrong count ≡ Refuses number i
-    at l hit none = rw (first-is wrong count i l none hit, lt-ltb i count l)
+      at : (i : ℕ) → i < count → wrong i ≡ true → NoneBelow wrong i → n ≡ number i → p ≡ place i
+          → refuseIf (ltb (first wrong count) count) (number (first wrong count)) (place (first wrong count)) ≡ Refuses n p
+      at i l hit none m q = rw (first-is wrong count i l none hit, lt-ltb i count l) (refuses-both m q)
 
-pub passed-at-all : (number : ℕ) (wrong : ℕ → Bool) (count : ℕ) → refuseAtFirst number wrong count ≡ Passes ↔ NoneBelow wrong count
+  -- and passes exactly where nothing is wrong
+  pub passed-at-first : (n p : ℕ) → (refuseIf (ltb (first wrong count) count) n p ≡ Passes) ↔ NoneBelow wrong count
+  passed-at-first n p = (λ e. by (ltb (first wrong count) count) refl e, λ h. rw (first-end wrong count h, le-ltb count count (omega arith)))
+    where
+      by : (b : Bool) → ltb (first wrong count) count ≡ b → refuseIf b n p ≡ Passes → NoneBelow wrong count
+      by true t e = absurd (never (sym e))
+      by false t e =
+          let f : first wrong count ≡ count = omega (arith, ltb-false (first wrong count) count t, first-≤ wrong count) in
+          rw f at (first-misses wrong count)
+
+pub passed-at-all : (number : ℕ) (wrong : ℕ → Bool) (count : ℕ) → (refuseAtFirst number wrong count ≡ Passes) ↔ NoneBelow wrong count
 unfolding refuseAtFirst
-passed-at-all number wrong count = (λ e. by (ltb (first wrong count) count) refl e, λ h. rw (first-end wrong count h, le-ltb count count (omega arith)))
-  where
-    by : (b : Bool) → ltb (first wrong count) count ≡ b → refuseIf b number (first wrong count) ≡ Passes → NoneBelow wrong count
-    by true t e = absurd (never (sym e))
-    by false t e =
-        let f : first wrong count ≡ count = omega (arith, ltb-false (first wrong count) count t, first-≤ wrong count) in
-        rw f at (first-misses wrong count)
+passed-at-all number wrong count = passed-at-first wrong count number (first wrong count)
 
 -- two outcomes that a promise permits are one
 pub coincide : {o : Outcome} {a a′ : Answer} {bs bs′ : List ℕ} → Gives o a bs → Gives o a′ bs′ → (a ≡ a′) × (bs ≡ bs′)

@@ -13,9 +13,7 @@ use Rattle.basis.specs.declared.Verdict.the-variants.{Passes}
 use Rattle.basis.specs.Bytes.{Bytes}
 use Rattle.basis.specs.Lists.{Each, any, joined}
 use Rattle.basis.specs.Answers.{firstRefusal, answer}
-use Rattle.basis.specs.First.{first}
-use Rattle.basis.proofs.First.{first-misses, first-end}
-use Rattle.basis.proofs.Answers.{passed-at-all, passed-then}
+use Rattle.basis.proofs.Answers.{passed-at-first, passed-at-all, passed-then}
 use Rattle.basis.proofs.Lists.{length-countUp, length-sortedBy, each-at, at-each, each-map, sortedBy-each}
 use Rattle.basis.proofs.Bools.{clash, and-true, not-both, or-either}
 use Rattle.meaning.specs.declared.Decoded.the-variants.{Bad}
@@ -32,7 +30,7 @@ use Rattle.demands.specs.Refusals.{registerRows, calculationRows}
 use Rattle.demands.proofs.Lists.{any-some, some-any, any-append, append-any}
 use Rattle.demands.proofs.Order.{sorted-ascending}
 use Rattle.demands.proofs.Rows.{numberAt-fits, bytes-drop}
-use Rattle.demands.proofs.Exactly.{passed-if, if-passed, each-passes, decide-append, DecideAll, Numbered, passed-append, passes-each, exactly-written, zero-passes, answers, room-decides}
+use Rattle.demands.proofs.Exactly.{if-passed, each-passes, decide-append, DecideAll, Numbered, passed-append, passes-each, exactly-written, zero-passes, answers, room-decides}
 use Rattle.demands.proofs.Reports.{length-report}
 use Rattle.demands.proofs.RegisterTests.{noSource, sourceNumber, length-sources, source-at, register-decides}
 use Rattle.demands.proofs.Registers.{sound-parts, Passed, passed, passing}
@@ -145,19 +143,17 @@ unfolding massTest faultAt
 sums-kept ss e =
     let fs = map massFault ss in
     let q : length fs ≡ length ss = length-map ss massFault in
-    let n = ltb-false (first (faultAt fs) (length fs)) (length fs) (passed-if _ _ _ e) in
+    let none = passed-at-first (faultAt fs) (length fs) _ _ .0 e in
     at-each (λ s. massFault s ≡ 0) ss noSource
-    (λ i l. fault-zero ss i ∙ eqb-true (getD fs i 0) 0 (not-false (eqb (getD fs i 0) 0) (first-misses (faultAt fs) (length fs) i (omega arith))))
+    (λ i l. fault-zero ss i ∙ eqb-true (getD fs i 0) 0 (not-false (eqb (getD fs i 0) 0) (none i (omega arith))))
 
 pub kept-sums : (ss : List Source) → Each (λ s. massFault s ≡ 0) ss → massTest ss ≡ Passes
 unfolding massTest faultAt
 kept-sums ss h =
     let fs = map massFault ss in
     let q : length fs ≡ length ss = length-map ss massFault in
-    let e : first (faultAt fs) (length fs) ≡ length fs =
-    first-end (faultAt fs) (length fs)
-    (λ i l. ap not (eq-eqb (getD fs i 0) 0 (sym (fault-zero ss i) ∙ each-at (λ s. massFault s ≡ 0) ss noSource h i (omega arith)))) in
-    if-passed (ltb (first (faultAt fs) (length fs)) (length fs)) _ _ (rw e (le-ltb (length fs) (length fs) (omega arith)))
+    passed-at-first (faultAt fs) (length fs) _ _ .1
+    (λ i l. ap not (eq-eqb (getD fs i 0) 0 (sym (fault-zero ss i) ∙ each-at (λ s. massFault s ≡ 0) ss noSource h i (omega arith))))
 
 -- the tests of calculation behind those of the register
 each-calculable : (ss : List Source) → Each (λ s. s .number < 2 ^ 32) ss → Each (λ s. unsound s ≡ false) ss

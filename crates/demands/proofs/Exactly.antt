@@ -2,7 +2,7 @@
 use mathlib.Core.Bool.{Bool, true, false}
 use mathlib.Core.List.{List, [], _∷_, _++_}
 use mathlib.Core.Logic.{inl, inr, ⊎-elim, _↔_, _≢_}
-use mathlib.Core.Path.{_≡_, refl, sym, ap, _∙_}
+use mathlib.Core.Path.{_≡_, refl, sym, ap, subst₂, _∙_}
 use Prim.Native.Nat.{ℕ, _<_}
 use native.Mathlib.Omega.{arith}
 use lib.Dec.{ltb}
@@ -14,10 +14,9 @@ use Rattle.basis.specs.declared.Verdict.{Verdict}
 use Rattle.basis.specs.declared.Verdict.the-variants.{Passes, Refuses}
 use Rattle.basis.specs.First.{first}
 use Rattle.basis.specs.Answers.{refuseIf, firstRefusal, answer, settled}
-use Rattle.basis.proofs.First.{first-hits, first-misses, first-is}
-use Rattle.basis.proofs.Answers.{never}
+use Rattle.basis.proofs.Answers.{never, refuses-number, refuses-place, refuses-both, refused-at-first}
 use Rattle.basis.proofs.Bytes.{length-splice}
-use Rattle.basis.proofs.Bools.{clash}
+use Rattle.basis.proofs.Bools.{clash, not-both}
 use Rattle.meaning.specs.Calls.{roomTest, written}
 use Rattle.demands.specs.Demand1.{Among, FromTable, Answers}
 use Rattle.demands.specs.Exactly.{Row, Nowhere, at, atSmallest, FirstOf, Exactly}
@@ -57,15 +56,6 @@ decide-append (v ∷ vs) us [] rows′ d e = absurd d
 decide-append (Passes ∷ vs) us (row ∷ rows) rows′ d e = (d .0, λ h. decide-append vs us rows rows′ (d .1 h) e)
 decide-append (Refuses m q ∷ vs) us (row ∷ rows) rows′ d e = (d .0, λ h. absurd (never (sym h)))
 
-pub refuses-number : {m q n p : ℕ} → Refuses m q ≡ Refuses n p → n ≡ m
-refuses-number e = cc
-
-pub refuses-place : {m q n p : ℕ} → Refuses m q ≡ Refuses n p → p ≡ q
-refuses-place e = cc
-
-pub refuses-both : {m q n p : ℕ} → n ≡ m → p ≡ q → Refuses m q ≡ Refuses n p
-refuses-both e f = cc
-
 -- tests that all pass, one by one
 pub each-passes : (vs : List Verdict) → firstRefusal vs ≡ Passes → Each (λ v. v ≡ Passes) vs
 unfolding firstRefusal
@@ -103,29 +93,15 @@ pub decide-first : (test : ℕ → Bool) (count : ℕ) (number : ℕ → ℕ) (w
     → ((i n : ℕ) → i < count → wrong n i → (test i ≡ true) × (n ≡ number i))
     → Decides (refuseIf (ltb (first test count) count) (number (first test count)) (first test count)) (atSmallest count wrong)
 decide-first test count number wrong right only n p =
-    (by (ltb (first test count) count) refl, back)
-  where
-    by : (b : Bool) → ltb (first test count) count ≡ b → refuseIf b (number (first test count)) (first test count) ≡ Refuses n p → atSmallest count wrong n p
-    by true t e =
-        let f : p ≡ first test count = refuses-place e in
-        let m : n ≡ number (first test count) = refuses-number e in
-        let l : first test count < count = ltb-true (first test count) count t in
-        rw (f, m) (
-          l,
-          right (first test count) l (first-hits test count l),
-          λ k q o w. clash (only k o (omega arith) w .0) (first-misses test count k q),
-        )
-    by false t e = absurd (never e)
-
-    back : atSmallest count wrong n p → refuseIf (ltb (first test count) count) (number (first test count)) (first test count) ≡ Refuses n p
-    back r =
-        let h = only p n (r .0) (r .1) in
-        let f : first test count ≡ p = first-is test count p (r .0) (λ k q. miss (test k) refl (λ t. r .2 k q (number k) (right k (omega (arith, r .0)) t))) (h .0) in
-        rw (f, lt-ltb p count (r .0)) (refuses-both (h .1) refl)
-      where
-        miss : (b : Bool) {c : Bool} → c ≡ b → (c ≡ true → ⊥) → c ≡ false
-        miss true e f = absurd (f e)
-        miss false e f = e
+    let exactly = refused-at-first test count number (λ i. i) n p in (
+      λ e.
+          let r = exactly .0 e in
+          subst₂ (atSmallest count wrong) (sym (r .4)) (sym (r .5))
+          (r .1, right (r .0) (r .1) (r .2), λ k q m w. clash (only k m (omega (arith, r .1)) w .0) (r .3 k q)),
+      λ r.
+          let h = only p n (r .0) (r .1) in
+          exactly .1 (p, r .0, h .0, λ k q. not-both (test k) (λ t. r .2 k q (number k) (right k (omega (arith, r .0)) t)), h .1, refl),
+    )
 
 pub settled-answer : (v : Verdict) (made buffer : List ℕ) → settled v made buffer .answer ≡ answer v (length made)
 unfolding settled

@@ -2,20 +2,18 @@
 use mathlib.Core.Bool.{Bool, true, false, not}
 use mathlib.Core.List.{List, _++_, map}
 use mathlib.Core.Logic.{_≢_}
-use mathlib.Core.Path.{_≡_, refl, sym, ap, _∙_}
+use mathlib.Core.Path.{_≡_, refl, sym, ap, subst, _∙_}
 use Prim.Native.Nat.{ℕ, _+_, _≤_, _<_}
 use native.Mathlib.Omega.{arith}
 use native.Mathlib.Decide.{decLt}
 use lib.Dec.{eqb, ltb}
 use lib.ListN.{length, getD, length-map, length-append, List·getD-map}
-use borrow.Author.Tests.{ltb-true, ltb-false, eqb-true, eqb-false, lt-ltb, eq-eqb, not-true, not-false}
-use Rattle.basis.specs.declared.Verdict.the-variants.{Passes, Refuses}
+use borrow.Author.Tests.{ltb-true, eqb-true, eqb-false, lt-ltb, eq-eqb, not-true, not-false}
+use Rattle.basis.specs.declared.Verdict.the-variants.{Passes}
 use Rattle.basis.specs.Bytes.{numberAt, Bytes}
 use Rattle.basis.specs.Lists.{Each, stands, any}
-use Rattle.basis.specs.First.{first}
 use Rattle.basis.specs.Answers.{refuseIf}
-use Rattle.basis.proofs.First.{first-hits, first-misses, first-is}
-use Rattle.basis.proofs.Answers.{never}
+use Rattle.basis.proofs.Answers.{never, refused-at-first, passed-at-first}
 use Rattle.basis.proofs.Lists.{length-sortedBy, at-each, each-append, sortedBy-each}
 use Rattle.basis.proofs.Bools.{clash, not-both}
 use Rattle.meaning.specs.Register.{mostSources}
@@ -26,7 +24,7 @@ use Rattle.demands.specs.Exactly.{Nowhere, at}
 use Rattle.demands.specs.Refusals.{NoReport, HasNumber, InBoth}
 use Rattle.demands.proofs.Lists.{any-some, some-any, any-map}
 use Rattle.demands.proofs.Order.{ascending-each, ascending-distinct, ascending-lt, sorted-ascending, distinct-append}
-use Rattle.demands.proofs.Exactly.{Decides, decide-if, refuses-number, refuses-place, refuses-both}
+use Rattle.demands.proofs.Exactly.{Decides, decide-if}
 use Rattle.demands.proofs.Reports.{noEntry, report-right}
 use Rattle.demands.proofs.WellFormed.{formed, reportable, report-again, count-is, entry-at}
 
@@ -127,45 +125,35 @@ module _ (one other : List ℕ) (h : Bytes one) (g : Bytes other) (w : wellForme
 
   pub shared-decides : Decides (sharedTest one other) (λ n p. (n ≡ 11) × InBoth one other p × ((x : ℕ) → x < p → InBoth one other x → ⊥))
   unfolding sharedTest shared-test numbers
-  shared-decides n p = (by (ltb i (length (numbers one))) refl, back)
-    where
-      i : ℕ
-      i = first shared-test (length (numbers one))
-
-      by : (b : Bool) → ltb i (length (numbers one)) ≡ b → refuseIf b 11 (getD (numbers one) i 0) ≡ Refuses n p
-          → (n ≡ 11) × InBoth one other p × ((x : ℕ) → x < p → InBoth one other x → ⊥)
-      by true t e =
-          let q : i < length (numbers one) = ltb-true i (length (numbers one)) t in
-          let l : i < entryCount one = omega (arith, long) in
-          let f : p ≡ numberAt 4 (entryAt one i) 0 = refuses-place e ∙ place-at i l in (
-            refuses-number e,
-            rw f (both-at i l (first-hits shared-test (length (numbers one)) q)),
-            λ x m r. clash (at-both x r) (first-misses shared-test (length (numbers one)) (r .0 .0) (index-lt (r .0 .0) i (r .0 .1) l (rw (← f, r .0 .2) m))),
-          )
-      by false t e = absurd (never e)
-
-      back : (n ≡ 11) × InBoth one other p × ((x : ℕ) → x < p → InBoth one other x → ⊥) → refuseIf (ltb i (length (numbers one))) 11 (getD (numbers one) i 0) ≡ Refuses n p
-      back r =
-          let k = r .1 .0 .0 in
-          let l : k < entryCount one = r .1 .0 .1 in
-          let q : k < length (numbers one) = omega (arith, long) in
-          let f : first shared-test (length (numbers one)) ≡ k =
-          first-is shared-test (length (numbers one)) k q
-          (λ j m. not-both (shared-test j) (λ t. r .2 (numberAt 4 (entryAt one j) 0) (rw (r .1 .0 .2) at (number-lt j k m l)) (both-at j (omega arith) t)))
-          (at-both p (r .1)) in
-          rw (f, lt-ltb k (length (numbers one)) q) (refuses-both (r .0) (sym (r .1 .0 .2) ∙ sym (place-at k l)))
+  shared-decides n p =
+      let exactly = refused-at-first shared-test (length (numbers one)) (λ i. 11) (λ i. getD (numbers one) i 0) n p in (
+        λ e.
+            let r = exactly .0 e in
+            let i = r .0 in
+            let l : i < entryCount one = omega (arith, r .1, long) in
+            let f : p ≡ numberAt 4 (entryAt one i) 0 = r .5 ∙ place-at i l in (
+              r .4,
+              subst (InBoth one other) (sym f) (both-at i l (r .2)),
+              λ x m s. clash (at-both x s) (r .3 (s .0 .0) (index-lt (s .0 .0) i (s .0 .1) l (omega (arith, m, f, s .0 .2)))),
+            ),
+        λ r.
+            let k = r .1 .0 .0 in
+            let l : k < entryCount one = r .1 .0 .1 in
+            exactly .1 (
+              k,
+              omega (arith, l, long),
+              at-both p (r .1),
+              λ j m.
+                  let o : j < entryCount one = omega (arith, m, l) in
+                  not-both (shared-test j) (λ t. r .2 (numberAt 4 (entryAt one j) 0) (rw (r .1 .0 .2) at (number-lt j k m l)) (both-at j o t)),
+              r .0,
+              sym (r .1 .0 .2) ∙ sym (place-at k l),
+            ),
+      )
 
   pub passed-shared : sharedTest one other ≡ Passes → (x : ℕ) → InBoth one other x → ⊥
   unfolding sharedTest shared-test numbers
-  passed-shared e x r = by (ltb (first shared-test (length (numbers one))) (length (numbers one))) refl e
-    where
-      by : (b : Bool) → ltb (first shared-test (length (numbers one))) (length (numbers one)) ≡ b
-          → refuseIf b 11 (getD (numbers one) (first shared-test (length (numbers one))) 0) ≡ Passes → ⊥
-      by true t e = never (sym e)
-      by false t e =
-          let l : r .0 .0 < entryCount one = r .0 .1 in
-          let m : length (numbers one) ≤ first shared-test (length (numbers one)) = ltb-false _ _ t in
-          clash (at-both x r) (first-misses shared-test (length (numbers one)) (r .0 .0) (omega (arith, long)))
+  passed-shared e x r = clash (at-both x r) (passed-at-first shared-test (length (numbers one)) 11 _ .0 e (r .0 .0) (omega (arith, r .0 .1, long)))
 
   -- the entries of both make a report
   pub entries-apart : ((x : ℕ) → InBoth one other x → ⊥) → Each (λ x. Each (λ z. entryNumber x ≢ entryNumber z) (entriesOf other)) (entriesOf one)

@@ -8,23 +8,16 @@ use native.Mathlib.Omega.{arith}
 use lib.Dec.{eqb}
 use borrow.Author.Tests.{eqb-true, eq-eqb}
 use lib.ListN.{length, getD, take, drop, replicate, length-append, length-take, length-drop, take-append-drop}
-use lib.Seq.{drop-at, drop-drop, take-add, length-take-le, getD-drop, drop-append-add, drop-append-le, take-append-le}
+use lib.Seq.{drop-at, drop-drop, take-add, length-take-le, getD-drop, drop-append-add}
 use Rattle.basis.specs.Bytes.{bytesOf, numberAt, packed, Bytes, startsWith}
 use Rattle.basis.specs.Lists.{Each, sum, countUp, joined}
 use Rattle.basis.proofs.Bytes.{append-bytes, bytesOf-numberOf, numberOf-fits}
 use Rattle.basis.proofs.Bools.{and-true, true-and}
 
--- a number is read behind what stands before it, and in front of what stands behind it
+-- a number is read behind what stands before it
 pub numberAt-behind : (k : ℕ) (xs ys : List ℕ) (p : ℕ) → numberAt k (xs ++ ys) (length xs + p) ≡ numberAt k ys p
 unfolding numberAt
 numberAt-behind k xs ys p = rw (drop-append-add xs ys p)
-
-pub numberAt-front : (k : ℕ) (xs ys : List ℕ) (p : ℕ) → p + k ≤ length xs → numberAt k (xs ++ ys) p ≡ numberAt k xs p
-unfolding numberAt
-numberAt-front k xs ys p h =
-    let f : p ≤ length xs = omega arith in
-    let g : k ≤ length (drop p xs) = rw length-drop (omega arith) in
-    rw (drop-append-le p xs ys f, take-append-le k (drop p xs) ys g)
 
 pub numberAt-drop : (k : ℕ) (xs : List ℕ) (n p : ℕ) → numberAt k (drop n xs) p ≡ numberAt k xs (n + p)
 unfolding numberAt
