@@ -14,7 +14,7 @@ use Rattle.meaning.specs.Report.{Entry, inOrder, reportBytes, reportLength, rep
 use Rattle.meaning.specs.Calls.{roomTest, numbered, combined, removed, removalTests}
 use Rattle.demands.specs.Valid.{Entered, Distinct, entryNumber, Reportable}
 use Rattle.demands.specs.Trees.{wrote, Accepted}
-use Rattle.demands.specs.Demand3.{GoodReport, Gives, Neutral, Again}
+use Rattle.demands.specs.Demand3.{GoodReport, CombinesTo, Neutral, Again}
 use Rattle.demands.proofs.Lists.{some-any}
 use Rattle.demands.proofs.Order.{ascending-each, ascending-distinct, ascending-sorted, distinct-perm, sorted-perm}
 use Rattle.demands.proofs.Exactly.{passes-each, if-passed}
@@ -51,8 +51,8 @@ neutral b buffer g o =
     let left = combined-writes y [] es z (r .0) tt (omega arith) buffer (omega arith) in
     let e = in-order (es ++ []) es (r .0) (subst (List·Permᴰ es) (sym (append-nil es)) (Permᴰ·refl es)) in
     let f = in-order es es (r .0) (Permᴰ·refl es) in (
-      subst (λ (x : List ℕ). Gives x (reportBytes y []) buffer x) (r .1) (right .0, right .1 ∙ ap (reportBytes y) e),
-      subst (λ (x : List ℕ). Gives (reportBytes y []) x buffer x) (r .1) (left .0, left .1 ∙ ap (reportBytes y) f),
+      subst (λ (x : List ℕ). CombinesTo x (reportBytes y []) buffer x) (r .1) (right .0, right .1 ∙ ap (reportBytes y) e),
+      subst (λ (x : List ℕ). CombinesTo (reportBytes y []) x buffer x) (r .1) (left .0, left .1 ∙ ap (reportBytes y) f),
     )
 
 -- the entries but one, with that one, are the entries
@@ -119,8 +119,8 @@ module _ (y : ℕ) (es : List Entry) (v : Reportable y es) (e : Entry) (i : ℕ)
 
   pub again : (result buffer : List ℕ) → reportLength (length es - 1) ≤ length result → reportLength (length es) ≤ length buffer
       → Accepted (removed (reportBytes y es) (e .number) result)
-      × Gives (wrote (removed (reportBytes y es) (e .number) result)) (reportBytes y (e ∷ [])) buffer (reportBytes y es)
-      × Gives (reportBytes y (e ∷ [])) (wrote (removed (reportBytes y es) (e .number) result)) buffer (reportBytes y es)
+      × CombinesTo (wrote (removed (reportBytes y es) (e .number) result)) (reportBytes y (e ∷ [])) buffer (reportBytes y es)
+      × CombinesTo (reportBytes y (e ∷ [])) (wrote (removed (reportBytes y es) (e .number) result)) buffer (reportBytes y es)
   unfolding others
   again result buffer o p =
       let r = removed-writes y (e .number) es v present result o in
@@ -130,9 +130,9 @@ module _ (y : ℕ) (es : List Entry) (v : Reportable y es) (e : Entry) (i : ℕ)
       combined-writes y others (e ∷ []) rest single (apart entryNumber others (e ∷ []) (distinct-perm entryNumber behind distinct)) (omega arith) buffer (omega arith) in
       let right = combined-writes y (e ∷ []) others single rest (apart entryNumber (e ∷ []) others distinct) (omega arith) buffer (omega arith) in (
         r .0,
-        subst (λ (x : List ℕ). Gives x (reportBytes y (e ∷ [])) buffer (reportBytes y es)) (sym (r .1))
+        subst (λ (x : List ℕ). CombinesTo x (reportBytes y (e ∷ [])) buffer (reportBytes y es)) (sym (r .1))
             (left .0, left .1 ∙ ap (reportBytes y) (in-order (others ++ (e ∷ [])) es v (List·Permᴰ·trans taken-out behind))),
-        subst (λ (x : List ℕ). Gives (reportBytes y (e ∷ [])) x buffer (reportBytes y es)) (sym (r .1))
+        subst (λ (x : List ℕ). CombinesTo (reportBytes y (e ∷ [])) x buffer (reportBytes y es)) (sym (r .1))
             (right .0, right .1 ∙ ap (reportBytes y) (in-order (e ∷ others) es v taken-out)),
       )
 
@@ -146,6 +146,6 @@ again-report b result buffer i e g l q o p =
     let a = again y es (r .0) e i (omega arith) q result buffer (omega arith) (omega arith) in
     subst
     (λ (x : List ℕ). Accepted (removed x (e .number) result)
-    × Gives (wrote (removed x (e .number) result)) (reportBytes y (e ∷ [])) buffer x
-    × Gives (reportBytes y (e ∷ [])) (wrote (removed x (e .number) result)) buffer x)
+    × CombinesTo (wrote (removed x (e .number) result)) (reportBytes y (e ∷ [])) buffer x
+    × CombinesTo (reportBytes y (e ∷ [])) (wrote (removed x (e .number) result)) buffer x)
     (r .1) a

@@ -12,7 +12,7 @@ use Rattle.meaning.specs.Report.{entryOf, inOrder, reportBytes}
 use Rattle.meaning.specs.Calls.{entriesFor, removed}
 use Rattle.demands.specs.Valid.{entryNumber}
 use Rattle.demands.specs.Trees.{wrote, Accepted}
-use Rattle.demands.specs.Demand3.{calculation, Gives, SourceAgain}
+use Rattle.demands.specs.Demand3.{calculation, CombinesTo, SourceAgain}
 use Rattle.demands.proofs.RegisterTests.{length-sources}
 use Rattle.demands.proofs.Calculated.{Calculable}
 use Rattle.demands.proofs.Combined.{Sources, made-of, length-entries}
@@ -61,7 +61,7 @@ source-again whole alone s i result buffer h a l q d only o p =
     let w : wrote (calculation alone) ≡ reportBytes y (entryOf s ∷ []) = c .1 ∙ ap (λ (ts : List Source). reportBytes y (entriesFor ts)) only in
     let g = again y (entriesFor ss) v (entryOf s) (k .0) (k .1) (k .2) result buffer (omega arith) (omega arith) in
     subst₂
-    (λ (x z : List ℕ). Accepted (removed x (s .number) result) × Accepted (calculation alone) × Gives (wrote (removed x (s .number) result)) z buffer x
-    × Gives z (wrote (removed x (s .number) result)) buffer x)
+    (λ (x z : List ℕ). Accepted (removed x (s .number) result) × Accepted (calculation alone) × CombinesTo (wrote (removed x (s .number) result)) z buffer x
+    × CombinesTo z (wrote (removed x (s .number) result)) buffer x)
     (sym (r .1)) (sym w)
     (g .0, c .0, g .1, g .2)

@@ -60,15 +60,15 @@ pub record GoodReport (b : List ℕ) : Type 0 where
   pub bytes : Bytes b
   pub formed : wellFormed b ≡ true
 
--- a combination is accepted and writes a report
-abbrev pub Gives : List ℕ → List ℕ → List ℕ → List ℕ → Type 0
-Gives one other buffer whole = Accepted (combined one other buffer) × (wrote (combined one other buffer) ≡ whole)
+-- the combination of two reports is accepted and writes a third
+abbrev pub CombinesTo : List ℕ → List ℕ → List ℕ → List ℕ → Type 0
+CombinesTo one other buffer whole = Accepted (combined one other buffer) × (wrote (combined one other buffer) ≡ whole)
 
 -- The empty report of a report's year changes nothing, on either side.
 abbrev pub Neutral : Type 0
 Neutral =
     (b buffer : List ℕ) → GoodReport b → length b ≤ length buffer
-    → Gives b (reportBytes (reportYear b) []) buffer b × Gives (reportBytes (reportYear b) []) b buffer b
+    → CombinesTo b (reportBytes (reportYear b) []) buffer b × CombinesTo (reportBytes (reportYear b) []) b buffer b
 
 -- Removing an entry of a well-formed report and combining its one-entry report again, on either side, gives the report.
 abbrev pub Again : Type 0
@@ -80,8 +80,8 @@ Again =
     → reportLength (entryCount b - 1) ≤ length result
     → length b ≤ length buffer
     → Accepted (removed b (e .number) result)
-    × Gives (wrote (removed b (e .number) result)) (reportBytes (reportYear b) (e ∷ [])) buffer b
-    × Gives (reportBytes (reportYear b) (e ∷ [])) (wrote (removed b (e .number) result)) buffer b
+    × CombinesTo (wrote (removed b (e .number) result)) (reportBytes (reportYear b) (e ∷ [])) buffer b
+    × CombinesTo (reportBytes (reportYear b) (e ∷ [])) (wrote (removed b (e .number) result)) buffer b
 
 -- Removing a source from a register's report and combining the calculated report of that source alone gives the register's report.
 abbrev pub SourceAgain : Type 0
@@ -97,5 +97,5 @@ SourceAgain =
     → reportLength (sourceCount (whole .register)) ≤ length buffer
     → Accepted (removed (wrote (calculation whole)) (s .number) result)
     × Accepted (calculation alone)
-    × Gives (wrote (removed (wrote (calculation whole)) (s .number) result)) (wrote (calculation alone)) buffer (wrote (calculation whole))
-    × Gives (wrote (calculation alone)) (wrote (removed (wrote (calculation whole)) (s .number) result)) buffer (wrote (calculation whole))
+    × CombinesTo (wrote (removed (wrote (calculation whole)) (s .number) result)) (wrote (calculation alone)) buffer (wrote (calculation whole))
+    × CombinesTo (wrote (calculation alone)) (wrote (removed (wrote (calculation whole)) (s .number) result)) buffer (wrote (calculation whole))
