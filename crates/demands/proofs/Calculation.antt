@@ -19,7 +19,7 @@ use Rattle.meaning.specs.Masses.{added, taken, belowZero, rounded, mass, masses
 use Rattle.meaning.specs.Register.{Source, sourceCount, lineCount, nameBytes, lineAt, sourceEntry, methodIn, parameterIn, firstLineIn, lineCountIn, nameLengthIn, nameOffsetIn, sourceAt, sourcesOf, lineStart, nameStart, misplaced, decodedLines}
 use Rattle.meaning.specs.Calls.{badLine, lineTest, massFault, faultAt, massTest}
 use Rattle.demands.specs.Valid.{LaidRight}
-use Rattle.demands.specs.Exactly.{at, atSmallest, numbered}
+use Rattle.demands.specs.Exactly.{at, atSmallest, withNumber}
 use Rattle.demands.specs.Refusals.{BadLine, BelowZero, AboveLimit, MassFault}
 use Rattle.demands.proofs.Blocks.{Blocks, blocks-length, blocks-find, blocks-at}
 use Rattle.demands.proofs.Exactly.{Decides, decide-first}
@@ -107,7 +107,7 @@ module _ (b : List ℕ) (l : LaidRight b) where
   bad-is (Good x) e = absurd (clash e refl)
   bad-is Bad e = refl
 
-  pub line-decides : Decides (lineTest (sourcesOf b)) (atSmallest (lineCount b) (numbered 5 (BadLine b)))
+  pub line-decides : Decides (lineTest (sourcesOf b)) (atSmallest (lineCount b) (withNumber 5 (BadLine b)))
   unfolding lineTest badLine allLines readAs
   line-decides =
       rw length-lines

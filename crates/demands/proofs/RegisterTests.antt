@@ -17,7 +17,7 @@ use Rattle.basis.specs.Answers.{refuseIf, refuseAtFirst}
 use Rattle.basis.proofs.Lists.{length-countUp}
 use Rattle.basis.proofs.Bools.{clash, and-true, or-false, either-or, or-either}
 use Rattle.meaning.specs.Register.{Source, registerTag, registerLayout, yearOf, isYear, sourceCount, mostSources, lineCount, mostLines, nameBytes, mostNameBytes, sourcesAt, linesAt, namesAt, wholeLength, headerTests, sourceEntry, numberIn, sourceAt, sourcesOf, lineStart, nameStart, misplaced, unsound, wrongSource, sourceTest, restTest, repeats, repeatTest, registerTests}
-use Rattle.demands.specs.Exactly.{at, atSmallest, numbered}
+use Rattle.demands.specs.Exactly.{at, atSmallest, withNumber}
 use Rattle.demands.specs.Refusals.{headerRows, WrongSource, Repeated, registerRows}
 use Rattle.demands.proofs.Lists.{any-some, some-any, getD-counted}
 use Rattle.demands.proofs.Rows.{starts-tag, taken-starts}
@@ -89,12 +89,12 @@ header-decides b = (
 -- a test that refuses with one number at the first index that is wrong
 pub decide-at-first : (number : ℕ) (test : ℕ → Bool) (count : ℕ) (W : ℕ → Type 0) → ((i : ℕ) → i < count → test i ≡ true → W i)
     → ((i : ℕ) → i < count → W i → test i ≡ true)
-    → Decides (refuseAtFirst number test count) (atSmallest count (numbered number W))
+    → Decides (refuseAtFirst number test count) (atSmallest count (withNumber number W))
 unfolding refuseAtFirst
 decide-at-first number test count W right only =
-    decide-first test count (λ i. number) (numbered number W) (λ i l e. (refl, right i l e)) (λ i n l w. (only i l (w .1), w .0))
+    decide-first test count (λ i. number) (withNumber number W) (λ i l e. (refl, right i l e)) (λ i n l w. (only i l (w .1), w .0))
 
-source-decides : (b : List ℕ) → Decides (sourceTest b) (atSmallest (sourceCount b) (numbered 3 (WrongSource b)))
+source-decides : (b : List ℕ) → Decides (sourceTest b) (atSmallest (sourceCount b) (withNumber 3 (WrongSource b)))
 unfolding sourceTest wrongSource
 source-decides b =
     decide-at-first 3 (wrongSource b) (sourceCount b) (WrongSource b)
@@ -139,7 +139,7 @@ some-repeats ns i j l m e =
     let q : j < length (take i ns) = rw length-take (omega arith) in
     some-any (λ m. eqb m (getD ns i 0)) 0 (take i ns) j q (eq-eqb _ _ (getD-take i ns j 0 m ∙ e))
 
-repeat-decides : (b : List ℕ) → Decides (repeatTest (sourcesOf b)) (atSmallest (sourceCount b) (numbered 4 (Repeated b)))
+repeat-decides : (b : List ℕ) → Decides (repeatTest (sourcesOf b)) (atSmallest (sourceCount b) (withNumber 4 (Repeated b)))
 unfolding repeatTest
 repeat-decides b =
     let ns = map sourceNumber (sourcesOf b) in

@@ -20,8 +20,8 @@ at number place condition n p = (n ≡ number) × (p ≡ place) × condition
 abbrev pub atSmallest : ℕ → (ℕ → ℕ → Type 0) → Row
 atSmallest count wrong n p = (p < count) × wrong n p × ((k : ℕ) → k < p → (m : ℕ) → wrong m k → ⊥)
 
-abbrev pub numbered : ℕ → (ℕ → Type 0) → ℕ → ℕ → Type 0
-numbered number wrong n i = (n ≡ number) × wrong i
+abbrev pub withNumber : ℕ → (ℕ → Type 0) → ℕ → ℕ → Type 0
+withNumber number wrong n i = (n ≡ number) × wrong i
 
 -- a row of a list refuses, and no earlier one does
 abbrev pub FirstOf : List Row → Row

@@ -13,7 +13,7 @@ use Rattle.meaning.specs.Register.{registerLayout, yearOf, sourceCount, mostSou
 use Rattle.meaning.specs.Report.{Entry, reportBytes, reportLength, reportYear, entryCount, entryAt, entriesOf}
 use Rattle.meaning.specs.Text.{reportText}
 use Rattle.demands.specs.Valid.{Reportable}
-use Rattle.demands.specs.Exactly.{Row, at, atSmallest, numbered}
+use Rattle.demands.specs.Exactly.{Row, at, atSmallest, withNumber}
 
 -- 2: "a header field is wrong", its first byte
 abbrev pub headerRows : List ℕ → List Row
@@ -43,9 +43,9 @@ abbrev pub registerRows : List ℕ → List Row
 registerRows b =
     at 1 0 (length b < sourcesAt)
     ∷ headerRows b
-    ++ (atSmallest (sourceCount b) (numbered 3 (WrongSource b))
+    ++ (atSmallest (sourceCount b) (withNumber 3 (WrongSource b))
     ∷ at 3 (sourceCount b) ((lineStart b (sourceCount b) ≢ lineCount b) ⊎ (nameStart b (sourceCount b) ≢ nameBytes b))
-    ∷ atSmallest (sourceCount b) (numbered 4 (Repeated b))
+    ∷ atSmallest (sourceCount b) (withNumber 4 (Repeated b))
     ∷ [])
 
 -- 5: line j of the table is among the lines of some source i, and is bad for that source's method and parameter
@@ -75,7 +75,7 @@ roomRow entries room = at 8 (reportLength entries) (room < reportLength entries)
 abbrev pub calculationRows : List ℕ → ℕ → List Row
 calculationRows b room =
     registerRows b
-    ++ (atSmallest (lineCount b) (numbered 5 (BadLine b)) ∷ atSmallest (sourceCount b) (MassFault b) ∷ roomRow (sourceCount b) room ∷ [])
+    ++ (atSmallest (lineCount b) (withNumber 5 (BadLine b)) ∷ atSmallest (sourceCount b) (MassFault b) ∷ roomRow (sourceCount b) room ∷ [])
 
 -- 9: the bytes are those of no year and entries that make a report
 abbrev pub NoReport : List ℕ → Type 0
