@@ -13,6 +13,7 @@ use Rattle.basis.specs.declared.Answer.{Answer}
 use Rattle.basis.specs.declared.Verdict.{Verdict}
 use Rattle.basis.specs.declared.Verdict.the-variants.{Passes, Refuses}
 use Rattle.basis.specs.First.{first, NoneBelow}
+use Rattle.basis.specs.Lists.{Each}
 use Rattle.basis.specs.Answers.{refuseIf, refuseAtFirst, firstRefusal, Outcome, Gives, Shows}
 use Rattle.basis.proofs.First.{first-≤, first-hits, first-misses, first-is, first-end}
 
@@ -75,6 +76,32 @@ unfolding firstRefusal
 refused-then [] us e = absurd (never e)
 refused-then (Passes ∷ ts) us e = refused-then ts us e
 refused-then (Refuses n p ∷ ts) us e = e
+
+-- tests that all pass, one by one
+pub each-passes : (vs : List Verdict) → firstRefusal vs ≡ Passes → Each (λ v. v ≡ Passes) vs
+unfolding firstRefusal
+each-passes [] e = tt
+each-passes (Passes ∷ vs) e = (refl, each-passes vs e)
+each-passes (Refuses n p ∷ vs) e = absurd (never (sym e))
+
+pub passes-each : (vs : List Verdict) → Each (λ v. v ≡ Passes) vs → firstRefusal vs ≡ Passes
+unfolding firstRefusal
+passes-each [] h = refl
+passes-each (Passes ∷ vs) h = passes-each vs (h .1)
+passes-each (Refuses n p ∷ vs) h = absurd (never (sym (h .0)))
+
+pub passed-append : (vs us : List Verdict) → firstRefusal (vs ++ us) ≡ Passes → (firstRefusal vs ≡ Passes) × (firstRefusal us ≡ Passes)
+unfolding firstRefusal
+passed-append [] us e = (refl, e)
+passed-append (Passes ∷ vs) us e = passed-append vs us e
+passed-append (Refuses n p ∷ vs) us e = absurd (never (sym e))
+
+pub passed-if : (b : Bool) (n p : ℕ) → refuseIf b n p ≡ Passes → b ≡ false
+passed-if true n p e = absurd (never (sym e))
+passed-if false n p e = refl
+
+pub if-passed : (b : Bool) (n p : ℕ) → b ≡ false → refuseIf b n p ≡ Passes
+if-passed b n p e = rw e
 
 -- a call accepts exactly when each of its tests passes
 pub passed-exactly : (tests : List Verdict) → firstRefusal tests ≡ Passes ↔ ((i : ℕ) → getD tests i Passes ≡ Passes)

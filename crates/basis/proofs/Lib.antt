@@ -4,3 +4,6 @@ pub mod Lists
 pub mod First
 pub mod Answers
 pub mod Tables
+pub mod Counting
+pub mod Rows
+pub mod Blocks

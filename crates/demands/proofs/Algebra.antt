@@ -12,7 +12,7 @@ use Rattle.basis.specs.declared.Verdict.{Verdict}
 use Rattle.basis.specs.declared.Verdict.the-variants.{Passes, Refuses}
 use Rattle.basis.specs.Bytes.{Bytes}
 use Rattle.basis.specs.Answers.{firstRefusal, settled}
-use Rattle.basis.proofs.Answers.{never}
+use Rattle.basis.proofs.Answers.{never, each-passes, passed-if}
 use Rattle.basis.proofs.Lists.{sortedBy-perm}
 use Rattle.meaning.specs.Report.{Entry, inOrder, reportBytes, reportYear, entryCount, entriesOf}
 use Rattle.meaning.specs.Calls.{written, roomTest, bothEntries, combined, combinationTests, combinedReport}
@@ -23,7 +23,7 @@ use Rattle.demands.specs.Trees.{wrote, Accepted}
 use Rattle.demands.specs.Demand3.{GoodReport}
 use Rattle.demands.specs.Algebra.{Algebra}
 use Rattle.demands.proofs.Order.{ascending-distinct, ascending-sorted, sorted-perm}
-use Rattle.demands.proofs.Exactly.{Decides, first-decides, each-passes, passed-if}
+use Rattle.demands.proofs.Exactly.{Decides, first-decides}
 use Rattle.demands.proofs.Reports.{year-back, entries-back, report-bytes}
 use Rattle.demands.proofs.ReportCalls.{combination-decides, combination-passed, both-reportable}
 use Rattle.demands.proofs.Combined.{accepted-written}

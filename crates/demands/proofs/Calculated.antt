@@ -13,7 +13,7 @@ use Rattle.basis.specs.declared.Verdict.the-variants.{Passes}
 use Rattle.basis.specs.Bytes.{Bytes}
 use Rattle.basis.specs.Lists.{Each, any, joined}
 use Rattle.basis.specs.Answers.{firstRefusal, answer}
-use Rattle.basis.proofs.Answers.{passed-at-first, passed-at-all, passed-then}
+use Rattle.basis.proofs.Answers.{passed-at-first, passed-at-all, passed-then, if-passed, each-passes, passed-append, passes-each}
 use Rattle.basis.proofs.Lists.{length-countUp, length-sortedBy, each-at, at-each, each-map, sortedBy-each}
 use Rattle.basis.proofs.Bools.{clash, and-true, not-both, or-either}
 use Rattle.meaning.specs.declared.Decoded.the-variants.{Bad}
@@ -27,10 +27,10 @@ use Rattle.demands.specs.Valid.{Entered, Distinct, entryNumber, Reportab
 use Rattle.demands.specs.Demand1.{Among, Answers}
 use Rattle.demands.specs.Exactly.{Exactly}
 use Rattle.demands.specs.Refusals.{registerRows, calculationRows}
-use Rattle.demands.proofs.Lists.{any-some, some-any, any-append, append-any}
+use Rattle.basis.proofs.Counting.{any-some, some-any, any-append, append-any}
 use Rattle.demands.proofs.Order.{sorted-ascending}
-use Rattle.demands.proofs.Rows.{numberAt-fits, bytes-drop}
-use Rattle.demands.proofs.Exactly.{if-passed, each-passes, decide-append, DecideAll, Numbered, passed-append, passes-each, exactly-written, zero-passes, answers, room-decides}
+use Rattle.basis.proofs.Rows.{numberAt-fits, bytes-drop}
+use Rattle.demands.proofs.Exactly.{decide-append, DecideAll, Numbered, exactly-written, zero-passes, answers, room-decides}
 use Rattle.demands.proofs.Reports.{length-report}
 use Rattle.demands.proofs.RegisterTests.{noSource, sourceNumber, length-sources, source-at, register-decides}
 use Rattle.demands.proofs.Registers.{sound-parts, Passed, passed, passing}

@@ -21,7 +21,7 @@ use Rattle.meaning.specs.Calls.{badLine, lineTest, massFault, faultAt, massTest
 use Rattle.demands.specs.Valid.{LaidRight}
 use Rattle.demands.specs.Exactly.{at, atSmallest, withNumber}
 use Rattle.demands.specs.Refusals.{BadLine, BelowZero, AboveLimit, MassFault}
-use Rattle.demands.proofs.Blocks.{Blocks, blocks-length, blocks-find, blocks-at}
+use Rattle.basis.proofs.Blocks.{Blocks, blocks-length, blocks-find, blocks-at}
 use Rattle.demands.proofs.Exactly.{Decides, decide-first}
 use Rattle.demands.proofs.RegisterTests.{decide-at-first, noSource, length-sources, source-at}
 

@@ -23,8 +23,9 @@ use Rattle.demands.specs.Valid.{Distinct, entryNumber, Reportable}
 use Rattle.demands.specs.Exactly.{Row, Nowhere}
 use Rattle.demands.specs.Refusals.{InBoth}
 use Rattle.demands.specs.Trees.{Tree, leaves, wrote, Accepted, result, EachAccepted, Room}
-use Rattle.demands.proofs.Lists.{any-some}
-use Rattle.demands.proofs.Exactly.{Decides, passes-each, if-passed}
+use Rattle.basis.proofs.Counting.{any-some}
+use Rattle.basis.proofs.Answers.{passes-each, if-passed}
+use Rattle.demands.proofs.Exactly.{Decides}
 use Rattle.demands.proofs.Reports.{noEntry, year-back, count-back, entries-back, report-right, report-bytes, length-report}
 use Rattle.demands.proofs.ReportTests.{has, shared-decides, both-make}
 use Rattle.demands.proofs.RegisterTests.{sourceNumber}

@@ -15,8 +15,8 @@ use Rattle.basis.proofs.Bytes.{Fits, length-packed, packed-bytes, append-bytes}
 use Rattle.basis.proofs.Bools.{false-or}
 use Rattle.meaning.specs.Register.{Source, registerTag, registerLayout, yearOf, sourceCount, lineCount, nameBytes, sourceLength, lineLength, sourcesAt, linesAt, namesAt, wholeLength, lineOf, lineAt, sourceEntry, numberIn, methodIn, parameterIn, firstLineIn, lineCountIn, nameLengthIn, nameOffsetIn, namePlace, sourceAt, sourcesOf, lineStart, nameStart, misplaced, lineBytes, sourceEntries, registerHeader, encode}
 use Rattle.demands.specs.Valid.{LaidRight, LineFits, Encodable}
-use Rattle.demands.proofs.Lists.{counted-none}
-use Rattle.demands.proofs.Rows.{numberAt-drop, read-rows, each-bytes, joined-bytes}
+use Rattle.basis.proofs.Counting.{counted-none}
+use Rattle.basis.proofs.Rows.{numberAt-drop, read-rows, each-bytes, joined-bytes}
 use Rattle.demands.proofs.Calculation.{Placed}
 use Rattle.demands.proofs.EncodedEntries.{StandAt, stand-first, stand-next, numbers-at, length-line, line-back, line-bytes, rowsOf, rows-append, length-lines, linesOf, namesOf, entryWidths, entryNumbers, length-more, Room, room-next, entry-fits, length-entry, length-entries, each-line, names-bytes, entries-bytes}
 

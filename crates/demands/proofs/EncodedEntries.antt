@@ -12,7 +12,7 @@ use Rattle.basis.proofs.Bytes.{Fits, length-packed, numberAt-packed, packed-byt
 use Rattle.meaning.specs.declared.RawLine.{RawLine}
 use Rattle.meaning.specs.Register.{Source, mostLines, mostNameBytes, sourceLength, lineLength, lineOf, lineBytes, sourceEntries}
 use Rattle.demands.specs.Valid.{LineFits, SourceFits}
-use Rattle.demands.proofs.Rows.{length-rows}
+use Rattle.basis.proofs.Rows.{length-rows}
 
 -- bytes that stand in others at a place
 abbrev pub StandAt : List ℕ → ℕ → List ℕ → Type 0

@@ -14,7 +14,7 @@ use Rattle.basis.specs.declared.Verdict.{Verdict}
 use Rattle.basis.specs.declared.Verdict.the-variants.{Passes, Refuses}
 use Rattle.basis.specs.First.{first}
 use Rattle.basis.specs.Answers.{refuseIf, firstRefusal, answer, settled}
-use Rattle.basis.proofs.Answers.{never, refuses-number, refuses-place, refuses-both, refused-at-first}
+use Rattle.basis.proofs.Answers.{never, refuses-number, refuses-place, refuses-both, refused-at-first, each-passes, passed-append, passed-if}
 use Rattle.basis.proofs.Bytes.{length-splice}
 use Rattle.basis.proofs.Bools.{clash, not-both}
 use Rattle.meaning.specs.Calls.{roomTest, written}
@@ -55,32 +55,6 @@ decide-append [] us (row ∷ rows) rows′ d e = absurd d
 decide-append (v ∷ vs) us [] rows′ d e = absurd d
 decide-append (Passes ∷ vs) us (row ∷ rows) rows′ d e = (d .0, λ h. decide-append vs us rows rows′ (d .1 h) e)
 decide-append (Refuses m q ∷ vs) us (row ∷ rows) rows′ d e = (d .0, λ h. absurd (never (sym h)))
-
--- tests that all pass, one by one
-pub each-passes : (vs : List Verdict) → firstRefusal vs ≡ Passes → Each (λ v. v ≡ Passes) vs
-unfolding firstRefusal
-each-passes [] e = tt
-each-passes (Passes ∷ vs) e = (refl, each-passes vs e)
-each-passes (Refuses n p ∷ vs) e = absurd (never (sym e))
-
-pub passes-each : (vs : List Verdict) → Each (λ v. v ≡ Passes) vs → firstRefusal vs ≡ Passes
-unfolding firstRefusal
-passes-each [] h = refl
-passes-each (Passes ∷ vs) h = passes-each vs (h .1)
-passes-each (Refuses n p ∷ vs) h = absurd (never (sym (h .0)))
-
-pub passed-append : (vs us : List Verdict) → firstRefusal (vs ++ us) ≡ Passes → (firstRefusal vs ≡ Passes) × (firstRefusal us ≡ Passes)
-unfolding firstRefusal
-passed-append [] us e = (refl, e)
-passed-append (Passes ∷ vs) us e = passed-append vs us e
-passed-append (Refuses n p ∷ vs) us e = absurd (never (sym e))
-
-pub passed-if : (b : Bool) (n p : ℕ) → refuseIf b n p ≡ Passes → b ≡ false
-passed-if true n p e = absurd (never (sym e))
-passed-if false n p e = refl
-
-pub if-passed : (b : Bool) (n p : ℕ) → b ≡ false → refuseIf b n p ≡ Passes
-if-passed b n p e = rw e
 
 -- a test of a condition
 pub decide-if : (b : Bool) (number place : ℕ) (C : Type 0) → (b ≡ true → C) → (b ≡ false → C → ⊥) → Decides (refuseIf b number place) (at number place C)

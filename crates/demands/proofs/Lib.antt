@@ -1,6 +1,3 @@
-pub mod Lists
-pub mod Blocks
-pub mod Rows
 pub mod Order
 pub mod Exactly
 pub mod Reports

@@ -14,7 +14,7 @@ use Rattle.basis.specs.Lists.{sum}
 use Rattle.basis.specs.declared.Verdict.{Verdict}
 use Rattle.basis.specs.declared.Verdict.the-variants.{Passes}
 use Rattle.basis.specs.Answers.{firstRefusal, settled}
-use Rattle.basis.proofs.Answers.{coincide, coincide-part}
+use Rattle.basis.proofs.Answers.{coincide, coincide-part, each-passes}
 use Rattle.basis.proofs.Lists.{sortedBy-perm, each-at}
 use Rattle.meaning.specs.Masses.{gasCount, divisors, carbonDioxide, added, taken, belowZero, rounded, mass, masses, equivalent, limit}
 use Rattle.meaning.specs.Register.{Source, yearOf, sourceAt, sourcesOf, decodedLines}
@@ -24,11 +24,10 @@ use Rattle.meaning.specs.Calls.{roomTest, written, massFault, entriesFor, bothE
 use Rattle.meaning.proofs.Laws.{one-entry-each, entries-of-both}
 use Rattle.demands.specs.Valid.{entryNumber, Reportable}
 use Rattle.demands.specs.Demand2.{Nearest, Reports, Masses, Fixed}
-use Rattle.demands.proofs.Lists.{getD-counted}
+use Rattle.basis.proofs.Counting.{getD-counted}
 use Rattle.demands.proofs.Reports.{total-is, total-at, total-fits, report-right}
 use Rattle.demands.proofs.RegisterTests.{noSource, length-sources, source-at}
 use Rattle.demands.proofs.Calculated.{Calculable, accepted, register-makes}
-use Rattle.demands.proofs.Exactly.{each-passes}
 use Rattle.demands.proofs.ReportCalls.{both-reportable, combination-passed, removal-passed}
 use Rattle.demands.proofs.EveryDealing.{sum-perm}
 

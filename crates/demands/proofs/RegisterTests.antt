@@ -19,8 +19,8 @@ use Rattle.basis.proofs.Bools.{clash, and-true, or-false, either-or, or-either}
 use Rattle.meaning.specs.Register.{Source, registerTag, registerLayout, yearOf, isYear, sourceCount, mostSources, lineCount, mostLines, nameBytes, mostNameBytes, sourcesAt, linesAt, namesAt, wholeLength, headerTests, sourceEntry, numberIn, sourceAt, sourcesOf, lineStart, nameStart, misplaced, unsound, wrongSource, sourceTest, restTest, repeats, repeatTest, registerTests}
 use Rattle.demands.specs.Exactly.{at, atSmallest, withNumber}
 use Rattle.demands.specs.Refusals.{headerRows, WrongSource, Repeated, registerRows}
-use Rattle.demands.proofs.Lists.{any-some, some-any, getD-counted}
-use Rattle.demands.proofs.Rows.{starts-tag, taken-starts}
+use Rattle.basis.proofs.Counting.{any-some, some-any, getD-counted}
+use Rattle.basis.proofs.Rows.{starts-tag, taken-starts}
 use Rattle.demands.proofs.Exactly.{Decides, DecideAll, decide-if, decide-first, decide-append}
 
 -- a test that a number is the one laid down; that it is not above a limit

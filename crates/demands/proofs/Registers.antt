@@ -14,13 +14,12 @@ use Rattle.basis.specs.Lists.{Each}
 use Rattle.basis.specs.declared.Verdict.the-variants.{Passes}
 use Rattle.basis.specs.Bytes.{numberAt, startsWith}
 use Rattle.basis.specs.Answers.{refuseIf, firstRefusal}
-use Rattle.basis.proofs.Answers.{passed-at-all}
+use Rattle.basis.proofs.Answers.{passed-at-all, each-passes, passes-each, passed-if, if-passed}
 use Rattle.basis.proofs.Bools.{clash, and-true, true-and, or-false, false-or, not-both}
 use Rattle.meaning.specs.Methods.{listed}
 use Rattle.meaning.specs.Register.{Source, registerTag, registerLayout, yearOf, isYear, sourceCount, mostSources, lineCount, mostLines, nameBytes, mostNameBytes, sourcesAt, linesAt, namesAt, wholeLength, headerTests, sourceAt, sourcesOf, lineStart, nameStart, misplaced, unsound, wrongSource, sourceTest, restTest, repeats, repeatTest, registerTests}
 use Rattle.demands.specs.Valid.{Distinct, LaidRight}
-use Rattle.demands.proofs.Rows.{starts-tag, taken-starts}
-use Rattle.demands.proofs.Exactly.{each-passes, passes-each, passed-if, if-passed}
+use Rattle.basis.proofs.Rows.{starts-tag, taken-starts}
 use Rattle.demands.proofs.RegisterTests.{noSource, sourceNumber, repeats-some, some-repeats}
 
 -- different keys, by index

@@ -15,9 +15,9 @@ use Rattle.meaning.specs.Calls.{roomTest, numbered, combined, removed, removalT
 use Rattle.demands.specs.Valid.{Entered, Distinct, entryNumber, Reportable}
 use Rattle.demands.specs.Trees.{wrote, Accepted}
 use Rattle.demands.specs.Demand3.{GoodReport, CombinesTo, Neutral, Again}
-use Rattle.demands.proofs.Lists.{some-any}
+use Rattle.basis.proofs.Counting.{some-any}
+use Rattle.basis.proofs.Answers.{passes-each, if-passed}
 use Rattle.demands.proofs.Order.{ascending-each, ascending-distinct, ascending-sorted, distinct-perm, sorted-perm}
-use Rattle.demands.proofs.Exactly.{passes-each, if-passed}
 use Rattle.demands.proofs.Reports.{year-back, count-back, entries-back, report-right, length-report}
 use Rattle.demands.proofs.WellFormed.{formed, reportable, report-again}
 use Rattle.demands.proofs.ReportCalls.{without-make, without-absent, without-one}

@@ -14,6 +14,7 @@ use Rattle.basis.specs.Bytes.{Bytes}
 use Rattle.basis.specs.Lists.{Each, any, without}
 use Rattle.basis.specs.Answers.{firstRefusal, answer}
 use Rattle.basis.proofs.Bools.{clash, not-both}
+use Rattle.basis.proofs.Answers.{each-passes}
 use Rattle.meaning.specs.Register.{mostSources}
 use Rattle.meaning.specs.Report.{Entry, reportLength, reportYear, entryCount, entriesOf}
 use Rattle.meaning.specs.Text.{reportText}
@@ -24,7 +25,7 @@ use Rattle.demands.specs.Demand1.{FromTable, Answers}
 use Rattle.demands.specs.Exactly.{Row, at, FirstOf, Exactly}
 use Rattle.demands.specs.Refusals.{NoReport, combinationRows, removalRows, checkRows, textLength, textRows}
 use Rattle.demands.proofs.Order.{ascending-distinct}
-use Rattle.demands.proofs.Exactly.{Decides, DecideAll, each-passes, passes-nowhere, exactly, exactly-written, zero-passes, answers, answers-verdict, Numbered, room-decides}
+use Rattle.demands.proofs.Exactly.{Decides, DecideAll, passes-nowhere, exactly, exactly-written, zero-passes, answers, answers-verdict, Numbered, room-decides}
 use Rattle.demands.proofs.Reports.{length-report}
 use Rattle.demands.proofs.ReportTests.{form-decides, passed-form, year-decides, made-of, counted, has, absent-decides, shared-decides, passed-shared, entries-apart, both-make, count-decides, nowhere-at}
 

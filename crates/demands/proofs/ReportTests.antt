@@ -22,7 +22,7 @@ use Rattle.meaning.specs.Calls.{formTest, yearTest, sharedAt, sharedTest, count
 use Rattle.demands.specs.Valid.{Entered, entryNumber, Reportable}
 use Rattle.demands.specs.Exactly.{Nowhere, at}
 use Rattle.demands.specs.Refusals.{NoReport, HasNumber, InBoth}
-use Rattle.demands.proofs.Lists.{any-some, some-any, any-map}
+use Rattle.basis.proofs.Counting.{any-some, some-any, any-map}
 use Rattle.demands.proofs.Order.{ascending-each, ascending-distinct, ascending-lt, sorted-ascending, distinct-append}
 use Rattle.demands.proofs.Exactly.{Decides, decide-if}
 use Rattle.demands.proofs.Reports.{noEntry, report-right}

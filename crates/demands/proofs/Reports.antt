@@ -18,8 +18,8 @@ use Rattle.meaning.specs.Masses.{gasCount, gases, warming, weighed, equivalent,
 use Rattle.meaning.specs.Register.{mostSources}
 use Rattle.meaning.specs.Report.{Entry, figures, figureCount, figure, totals, reportTag, reportLayout, entriesAt, entryLength, reportLength, reportHeader, entryBytes, reportBytes, reportYear, entryCount, totalAt, entryAt, figureIn, entryIn, entriesOf, headerRight, numberBefore, wrongEntry, wrongTotal, wellFormed}
 use Rattle.demands.specs.Valid.{Entered, Ascending, entryNumber, Reportable}
-use Rattle.demands.proofs.Lists.{none-counted, getD-counted, counted-list, sum-widths, sum-bounded}
-use Rattle.demands.proofs.Rows.{tag-starts, numberAt-behind, read-rows, row-at, length-rows, each-bytes, joined-bytes}
+use Rattle.basis.proofs.Counting.{none-counted, getD-counted, counted-list, sum-widths, sum-bounded}
+use Rattle.basis.proofs.Rows.{tag-starts, numberAt-behind, read-rows, row-at, length-rows, each-bytes, joined-bytes}
 
 -- Figures and totals. An entry's figures are as many as the gases and one, and none is above the limit.
 pub length-figures : (e : Entry) → Entered e → length (figures e) ≡ figureCount

@@ -17,9 +17,9 @@ use Rattle.meaning.specs.Masses.{gasCount, gases, equivalent, limit}
 use Rattle.meaning.specs.Register.{mostSources}
 use Rattle.meaning.specs.Report.{Entry, figures, figureCount, totals, reportTag, reportLayout, entriesAt, entryLength, reportLength, reportHeader, entryBytes, reportBytes, reportYear, entryCount, totalAt, entryAt, figureIn, entryIn, entriesOf, headerRight, numberBefore, wrongEntry, wrongTotal, wellFormed}
 use Rattle.demands.specs.Valid.{Entered, Reportable}
-use Rattle.demands.proofs.Lists.{counted-none, getD-counted, counted-list}
+use Rattle.basis.proofs.Counting.{counted-none, getD-counted, counted-list}
 use Rattle.demands.proofs.Reports.{noEntry, prior, at-ascending, headerWidths, headerNumbers, length-totals}
-use Rattle.demands.proofs.Rows.{starts-tag, numberAt-drop, numberAt-fits, unpacked, unpacked-same, packed-unpacked, bytes-drop, write-rows}
+use Rattle.basis.proofs.Rows.{starts-tag, numberAt-drop, numberAt-fits, unpacked, unpacked-same, packed-unpacked, bytes-drop, write-rows}
 
 -- what a right header says
 pub record Headed (b : List ℕ) : Type 0 where

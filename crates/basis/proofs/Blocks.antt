@@ -7,9 +7,9 @@ use native.Mathlib.Nat.{add-zero, zero-add}
 use native.Mathlib.Omega.{arith}
 use lib.ListN.{length, getD, length-append, length-map, List·getD-append}
 use lib.Seq.{getD-append-add}
 use Rattle.basis.specs.Lists.{countUp, joined}
 use Rattle.basis.proofs.Lists.{length-countUp}
-use Rattle.demands.proofs.Lists.{getD-counted}
+use Rattle.basis.proofs.Counting.{getD-counted}
 
 module _ {A : Type 0} (f : ℕ → List A) (s c : ℕ → ℕ) (g : ℕ → ℕ → A) where
   -- block i holds what stands at the c i places from s i on, and the next begins where it ends
