@@ -10,6 +10,11 @@ use borrow.Author.Tests.{le-leb, lt-leb, leb-true, leb-false}
 use lib.ListN.{length, getD}
 use Rattle.basis.specs.Lists.{Each, sum, countUp, insertBy, sortedBy}
 
+-- what is said of each of a list, one by one
+infixr 20 _&_
+pub _&_ : {A B : Type 0} → A → B → A × B
+a & b = (a, b)
+
 pub sum-append : (ms ns : List ℕ) → sum (ms ++ ns) ≡ sum ms + sum ns
 unfolding sum
 sum-append [] ns = rw zero-add

@@ -1,3 +1,7 @@
+pub mod Among
+pub mod Readings
+pub mod Table
+pub mod Tabled
 pub mod Order
 pub mod Exactly
 pub mod Reports

@@ -1,3 +1,4 @@
+pub mod Table
 pub mod Valid
 pub mod Exactly
 pub mod Refusals

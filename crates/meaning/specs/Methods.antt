@@ -122,11 +122,7 @@ cement l =
 
 -- "Method 6 is nitric acid: kind 30, unit 1, code 0, A 0, B 0, parameter 1 to 6". Table 8 prints NiO for N2O.
 abbrev pub nitricAcid : ℕ → RawLine → Decoded
-nitricAcid parameter l =
-    given (isKind 30 l && inTonnes l && coded 0 l && eqb (l .a) 0 && eqb (l .b) 0 && within 1 6 parameter)
-    l
-    (NitricAcid (factorOf acids parameter))
-    Bad
+nitricAcid parameter l = given (isKind 30 l && inTonnes l && coded 0 l && eqb (l .a) 0 && eqb (l .b) 0) l (NitricAcid (factorOf acids parameter)) Bad
 
 -- "A line that is not one of its method's kinds is refused"
 unfoldable pub byMethod : ℕ → ℕ → RawLine → Decoded
@@ -138,9 +134,9 @@ byMethod method parameter l =
     (cond (eqb method 5) (cement l)
     (cond (eqb method 6) (nitricAcid parameter l) Bad)))))
 
--- a raw line of a method and parameter, read to its kind, or bad
+-- a raw line of a method and parameter, read to its kind, or bad; a pair that is not listed has no lines
 unfoldable pub decoded : ℕ → ℕ → RawLine → Decoded
-decoded method parameter l = cond (inRange l) (byMethod method parameter l) Bad
+decoded method parameter l = cond (listed method parameter && inRange l) (byMethod method parameter l) Bad
 
 abbrev pub isBad : Decoded → Bool
 isBad (Good l) = false

@@ -1,9 +1,9 @@
 // Document 01, "Methods and their lines": a line read to its kind, and a kind as what it adds to or takes from a gas.
-ghost use mathlib.Core.Bool.{false};
+ghost use mathlib.Core.Bool.{true, false};
 ghost use mathlib.Core.Path.{_≡_};
 ghost use Prim.Native.Nat.{_*_, _≤_, _<_};
 ghost use lib.ListN.{getD};
-ghost use Rattle.meaning.specs.Methods.{whole, largestContent, carbonates, acids, balanced, mostContent, inRange, given, fuel, flare, metals, petrochemical, cement, nitricAcid, byMethod, decoded};
+ghost use Rattle.meaning.specs.Methods.{listed, whole, largestContent, carbonates, acids, balanced, mostContent, inRange, given, fuel, flare, metals, petrochemical, cement, nitricAcid, byMethod, decoded};
 ghost use Rattle.meaning.specs.Masses.{gasCount, carbonDioxide, co2OfCarbon, mostFactors, contribution};
 ghost use Rattle.methods.specs.Ranges.{Entry, InRanges, KindFits, LineFits, carbonFactor, mostAcid};
 ghost use Rattle.methods.specs.Terms.{Weighs, contributed};
@@ -182,13 +182,11 @@ fn decode_nitric_acid(parameter: u64, line: RawLine) -> Decoded
     requires { ⌜ InRanges line ⌝ }
     ensures { λ r. ⌜ (r ≡ nitricAcid parameter line) × LineFits r ⌝ }
 {
-    let listed = (1 <= parameter) & (parameter <= 6);
     let made = (line.kind == 30)
         & (line.unit == 1)
         & (line.code == 0)
         & (line.a == 0)
-        & (line.b == 0)
-        & listed;
+        & (line.b == 0);
     let factor = acid_factor(parameter);
     line_if(line, made, Kind::NitricAcid { factor }, Decoded::Bad)
 }
@@ -225,8 +223,9 @@ fn is_in_range(line: RawLine) -> bool
     (line.q <= 10000000000) & (line.a <= most) & (line.b <= WHOLE)
 }
 
-// A raw line of a method and parameter, read to its kind, or bad.
+// A raw line of a method and parameter that are listed, read to its kind, or bad.
 pub fn decode(method: u64, parameter: u64, line: RawLine) -> Decoded
+    requires { ⌜ listed method parameter ≡ true ⌝ }
     ensures { λ r. ⌜ (r ≡ decoded method parameter line) × LineFits r ⌝ }
 {
     let sound = is_in_range(line);

@@ -11,5 +11,5 @@ decode-spec =
     (tie.spec
     (λ c κs. search needs)
     (λ c κs. search (needs, ranged))
-    (λ c. (rw (← c .before .before .is-in-range .ensures, c .before .if1 .taken) (c .decode-by-method .ensures .0), c .decode-by-method .ensures .1))
-    (λ c. (rw (← c .before .is-in-range .ensures, c .if1 .left), search needs)))
+    (λ c. (rw (c .before .before .before .pre, ← c .before .before .is-in-range .ensures, c .before .if1 .taken) (c .decode-by-method .ensures .0), c .decode-by-method .ensures .1))
+    (λ c. (rw (c .before .before .pre, ← c .before .is-in-range .ensures, c .if1 .left), search needs)))

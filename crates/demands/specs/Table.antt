@@ -1,0 +1,185 @@
+-- Document 01, "Methods and their lines", said a second time: its table as a table, in its own figures. A line of a method and parameter is good
+-- exactly if a row fits it; the row says for which gas it counts, whether it adds or takes, and how much. Assumes nothing.
+use mathlib.Core.Bool.{Bool, true, false, cond, _&&_}
+use mathlib.Core.List.{List, [], _∷_}
+use mathlib.Core.Logic.{_⊎_, _↔_, _≢_}
+use mathlib.Core.Path.{_≡_}
+use Prim.Native.Nat.{ℕ, _+_, _*_, _-_, _≤_, _<_}
+use lib.Dec.{eqb}
+use lib.ListN.{length, getD}
+use Rattle.meaning.specs.declared.RawLine.{RawLine}
+use Rattle.meaning.specs.declared.Decoded.the-variants.{Bad}
+use Rattle.meaning.specs.Methods.{decoded}
+use Rattle.meaning.specs.Masses.{addsTo, takesFrom}
+
+-- a number is one of a list
+abbrev pub Among : List ℕ → ℕ → Type 0
+Among [] n = ⊥
+Among (m ∷ ms) n = (n ≡ m) ⊎ Among ms n
+
+-- the gases, in the report's order
+abbrev pub CO2 : ℕ
+CO2 = 0
+
+abbrev pub CH4 : ℕ
+CH4 = 1
+
+abbrev pub N2O : ℕ
+N2O = 2
+
+pub data Sign : Type 0 where
+  adds takes : Sign
+
+-- what A or B must be: this number; at most this number; at most the first where the unit is tonne, 1, and else at most the second
+pub data Range : Type 0 where
+  exactly : ℕ → Range
+  upTo : ℕ → Range
+  byUnit : ℕ → ℕ → Range
+
+abbrev pub In : Range → ℕ → ℕ → Type 0
+In (exactly n) unit x = x ≡ n
+In (upTo n) unit x = x ≤ n
+In (byUnit tonne other) unit x = ((unit ≡ 1) × (x ≤ tonne)) ⊎ ((unit ≢ 1) × (x ≤ other))
+
+-- what a line's quantity is multiplied by before the factor: A and B, A and what is left of B, or nothing
+pub data Product : Type 0 where
+  Q·A·B Q·A·[10000-B] Q : Product
+
+-- a factor: one for every line, or one for each code or parameter, those of 1, 2, 3 and so on
+pub data Factor : Type 0 where
+  always : ℕ → Factor
+  byCode : List ℕ → Factor
+  byParameter : List ℕ → Factor
+
+pub record MethodRow : Type 0 where
+  pub method : ℕ
+  pub parameters : List ℕ
+  pub kind : ℕ
+  pub units : List ℕ
+  pub codes : List ℕ
+  pub a : Range
+  pub b : Range
+  pub gas : ℕ
+  pub sign : Sign
+  pub product : Product
+  pub factor : Factor
+
+abbrev pub row : ℕ → List ℕ → ℕ → List ℕ → List ℕ → Range → Range → ℕ → Sign → Product → Factor → MethodRow
+row method parameters kind units codes a b gas sign product factor =
+    record {
+      method = method;
+      parameters = parameters;
+      kind = kind;
+      units = units;
+      codes = codes;
+      a = a;
+      b = b;
+      gas = gas;
+      sign = sign;
+      product = product;
+      factor = factor;
+    }
+
+-- "1 tonne, 2 thousand m3, 3 tonne of standard fuel, 4 TJ"
+abbrev pub anyUnit : List ℕ
+anyUnit = 1 ∷ 2 ∷ 3 ∷ 4 ∷ []
+
+-- "A is in millionths: at most 1,000,000 where the unit is tonne, else at most 99,999,999"; "B is in ten-thousandths, 0 to 10,000"
+abbrev pub content : Range
+content = byUnit 1000000 99999999
+
+abbrev pub share : Range
+share = upTo 10000
+
+-- carbon to CO2, in thousandths: 3.664
+abbrev pub carbon : Factor
+carbon = always 3664
+
+-- "CaCO3 440, MgCO3 522, CaMg(CO3)2 477, FeCO3 380, codes 1 to 4"
+abbrev pub carbonate : Factor
+carbonate = byCode (440 ∷ 522 ∷ 477 ∷ 380 ∷ [])
+
+-- "f in tenths of a gram per tonne: 20,000; 25,000; 50,000; 75,000; 90,000; 5", parameters 1 to 6
+abbrev pub acid : Factor
+acid = byParameter (20000 ∷ 25000 ∷ 50000 ∷ 75000 ∷ 90000 ∷ 5 ∷ [])
+
+abbrev pub one-to-six : List ℕ
+one-to-six = 1 ∷ 2 ∷ 3 ∷ 4 ∷ 5 ∷ 6 ∷ []
+
+-- method, parameters, kind, units, codes, A, B; gas, sign, product, factor
+abbrev pub table : List MethodRow
+table =
+    -- 1 fuel: gas and liquid; solid
+    row 1 (0 ∷ []) 1 anyUnit (1 ∷ 2 ∷ []) content (exactly 10000) CO2 adds Q·A·B carbon
+    ∷ row 1 (0 ∷ []) 1 anyUnit (3 ∷ []) content share CO2 adds Q·A·B carbon
+    -- 2 flare: carbon that burns; methane that does not
+    ∷ row 2 (0 ∷ []) 1 (1 ∷ 2 ∷ []) (0 ∷ []) content share CO2 adds Q·A·[10000-B] carbon
+    ∷ row 2 (0 ∷ []) 2 (1 ∷ 2 ∷ []) (0 ∷ []) content share CH4 adds Q·A·B (always 1)
+    -- 3 metals: in, out, opening stock, closing stock
+    ∷ row 3 (0 ∷ []) 10 anyUnit (0 ∷ []) content (exactly 10000) CO2 adds Q·A·B carbon
+    ∷ row 3 (0 ∷ []) 11 anyUnit (0 ∷ []) content (exactly 10000) CO2 takes Q·A·B carbon
+    ∷ row 3 (0 ∷ []) 12 anyUnit (0 ∷ []) content (exactly 10000) CO2 adds Q·A·B carbon
+    ∷ row 3 (0 ∷ []) 13 anyUnit (0 ∷ []) content (exactly 10000) CO2 takes Q·A·B carbon
+    -- 4 petrochemical: feed, product, by-product
+    ∷ row 4 one-to-six 10 anyUnit (0 ∷ []) content (exactly 10000) CO2 adds Q·A·B carbon
+    ∷ row 4 one-to-six 11 anyUnit (0 ∷ []) content (exactly 10000) CO2 takes Q·A·B carbon
+    ∷ row 4 (2 ∷ 5 ∷ []) 14 anyUnit (0 ∷ []) content (exactly 10000) CO2 takes Q·A·B carbon
+    -- 5 cement: carbonate charged, kiln dust not returned, carbon other than fuel
+    ∷ row 5 (0 ∷ []) 20 (1 ∷ []) (1 ∷ 2 ∷ 3 ∷ 4 ∷ []) content share CO2 adds Q·A·B carbonate
+    ∷ row 5 (0 ∷ []) 21 (1 ∷ []) (1 ∷ 2 ∷ 3 ∷ 4 ∷ []) content share CO2 takes Q·A·[10000-B] carbonate
+    ∷ row 5 (0 ∷ []) 22 (1 ∷ []) (0 ∷ []) content (exactly 10000) CO2 adds Q·A·B carbon
+    -- 6 nitric acid
+    ∷ row 6 one-to-six 30 (1 ∷ []) (0 ∷ []) (exactly 0) (exactly 0) N2O adds Q acid
+    ∷ []
+
+-- a row fits a line of a method and parameter
+pub record Fits (r : MethodRow) (method parameter : ℕ) (l : RawLine) : Type 0 where
+  pub ofMethod : method ≡ r .method
+  pub ofParameter : Among (r .parameters) parameter
+  pub ofKind : l .kind ≡ r .kind
+  pub inUnit : Among (r .units) (l .unit)
+  pub coded : Among (r .codes) (l .code)
+  pub a : In (r .a) (l .unit) (l .a)
+  pub b : In (r .b) (l .unit) (l .b)
+  -- "Q is 0 to 10,000,000,000 thousandths of the unit"
+  pub q : l .q ≤ 10000000000
+
+-- a row of the table, by its index
+abbrev pub rowAt : ℕ → MethodRow
+rowAt i = getD table i (row 0 [] 0 [] [] (exactly 0) (exactly 0) CO2 adds Q (always 0))
+
+abbrev pub FitsAt : ℕ → ℕ → ℕ → RawLine → Type 0
+FitsAt i method parameter l = (i < length table) × Fits (rowAt i) method parameter l
+
+-- no row of the table fits
+abbrev pub NoRow : ℕ → ℕ → RawLine → Type 0
+NoRow method parameter l = (i : ℕ) → FitsAt i method parameter l → ⊥
+
+abbrev pub factorFor : Factor → ℕ → RawLine → ℕ
+factorFor (always f) parameter l = f
+factorFor (byCode fs) parameter l = getD fs (l .code - 1) 0
+factorFor (byParameter fs) parameter l = getD fs (parameter - 1) 0
+
+abbrev pub productOf : Product → RawLine → ℕ
+productOf Q·A·B l = l .q * l .a * l .b
+productOf Q·A·[10000-B] l = l .q * l .a * (10000 - l .b)
+productOf Q l = l .q
+
+abbrev pub same : Sign → Sign → Bool
+same adds adds = true
+same adds takes = false
+same takes adds = false
+same takes takes = true
+
+-- what a line that a row fits adds to, or takes from, the sum of a gas: nothing where the row has another sign or another gas
+abbrev pub amount : Sign → ℕ → MethodRow → ℕ → RawLine → ℕ
+amount sign gas r parameter l =
+    cond (same (r .sign) sign && eqb (r .gas) gas) (productOf (r .product) l * factorFor (r .factor) parameter l) 0
+
+-- Decoding goes by the table, for every line of every method and parameter: bad exactly if no row fits; no two rows fit; a line that a row fits
+-- counts as the row says, with its sign, for its gas, and nothing for any other.
+pub record Tabled : Type 0 where
+  pub bad : (method parameter : ℕ) (l : RawLine) → (decoded method parameter l ≡ Bad) ↔ NoRow method parameter l
+  pub once : (method parameter i j : ℕ) (l : RawLine) → FitsAt i method parameter l → FitsAt j method parameter l → i ≡ j
+  pub added : (method parameter i gas : ℕ) (l : RawLine) → FitsAt i method parameter l → addsTo gas (decoded method parameter l) ≡ amount adds gas (rowAt i) parameter l
+  pub taken : (method parameter i gas : ℕ) (l : RawLine) → FitsAt i method parameter l → takesFrom gas (decoded method parameter l) ≡ amount takes gas (rowAt i) parameter l
