@@ -28,6 +28,7 @@ use Rattle.demands.specs.Demand1.{Among, Answers}
 use Rattle.demands.specs.Exactly.{Exactly}
 use Rattle.demands.specs.Refusals.{registerRows, calculationRows}
 use Rattle.basis.proofs.Counting.{any-some, some-any, any-append, append-any}
+use Rattle.demands.proofs.Figures.{equivalent-is}
 use Rattle.demands.proofs.Order.{sorted-ascending}
 use Rattle.basis.proofs.Rows.{numberAt-fits, bytes-drop}
 use Rattle.demands.proofs.Exactly.{decide-append, DecideAll, Numbered, exactly-written, zero-passes, answers, room-decides}
@@ -73,11 +74,12 @@ kept-within s e = by (belowZero (decodedLines s)) (ltb limit (equivalent (masses
 pub entered : (s : Source) → Calculable s → Entered (entryOf s)
 unfolding entryOf masses
 entered s c =
+    let three : length (map (mass (decodedLines s)) gases) ≡ 3 = length-map gases (mass (decodedLines s)) ∙ length-countUp 0 gasCount in
     record {
       number = c .number;
       method = method-listed (s .method) (s .parameter) (sound-parts s (c .sound) .pair);
-      gases = length-map gases (mass (decodedLines s)) ∙ length-countUp 0 gasCount;
-      within = kept-within s (c .kept);
+      gases = three;
+      within = rw (← equivalent-is (entryOf s) three) (kept-within s (c .kept));
     }
 
 each-entered : (ss : List Source) → Each Calculable ss → Each Entered (map entryOf ss)

@@ -22,32 +22,13 @@ use Rattle.demands.specs.Valid.{LaidRight}
 use Rattle.demands.specs.Exactly.{at, atSmallest, withNumber}
 use Rattle.demands.specs.Refusals.{BadLine, BelowZero, AboveLimit, MassFault}
 use Rattle.basis.proofs.Blocks.{Blocks, blocks-length, blocks-find, blocks-at}
+use Rattle.demands.proofs.Figures.{lines-before, names-before, Standing, placed-standing}
 use Rattle.demands.proofs.Exactly.{Decides, decide-first}
 use Rattle.demands.proofs.RegisterTests.{decide-at-first, noSource, length-sources, source-at}
 
--- where an entry stands
-pub record Placed (b : List ℕ) (i : ℕ) : Type 0 where
-  pub line : firstLineIn (sourceEntry b i) ≡ lineStart b i
-  pub name : nameOffsetIn (sourceEntry b i) ≡ nameStart b i
-  pub lines : firstLineIn (sourceEntry b i) + lineCountIn (sourceEntry b i) ≤ lineCount b
-  pub names : nameOffsetIn (sourceEntry b i) + nameLengthIn (sourceEntry b i) ≤ nameBytes b
-
-pub placed : (b : List ℕ) (i : ℕ) → misplaced b i ≡ false → Placed b i
-unfolding misplaced
-placed b i e =
-    let c1 = or-false _ _ e in
-    let c2 = or-false _ _ (c1 .0) in
-    let c3 = or-false _ _ (c2 .0) in
-    record {
-      line = eqb-true _ _ (not-false _ (c3 .0));
-      name = eqb-true _ _ (not-false _ (c3 .1));
-      lines = ltb-false _ _ (c2 .1);
-      names = ltb-false _ _ (c1 .1);
-    }
-
 module _ (b : List ℕ) (l : LaidRight b) where
-  pub standing : (i : ℕ) → i < sourceCount b → Placed b i
-  standing i m = placed b i (l .placed i m)
+  pub standing : (i : ℕ) → i < sourceCount b → Standing b i
+  standing i m = placed-standing b i (l .placed i m)
 
   pub next-line : (i : ℕ) → i < sourceCount b → lineStart b (i + 1) ≡ lineStart b i + lineCountIn (sourceEntry b i)
   unfolding lineStart
@@ -67,6 +48,12 @@ module _ (b : List ℕ) (l : LaidRight b) where
         next = next-line i (omega arith);
       }
 
+  pub last-line : lineStart b (sourceCount b) ≡ lineCount b
+  last-line = lines-before b (sourceCount b) ∙ l .lastLine
+
+  pub last-name : nameStart b (sourceCount b) ≡ nameBytes b
+  last-name = names-before b (sourceCount b) ∙ l .lastName
+
   allLines : List Decoded
   allLines = joined (map decodedLines (sourcesOf b))
 
@@ -81,7 +68,7 @@ module _ (b : List ℕ) (l : LaidRight b) where
       ∙ sym (add-zero _)
       ∙ blocks-length (λ i. decodedLines (sourceAt b i)) (lineStart b) (λ i. lineCountIn (sourceEntry b i)) readAs (sourceCount b) 0 line-blocks
       ∙ ap (lineStart b) (zero-add (sourceCount b))
-      ∙ l .lastLine
+      ∙ last-line
 
   line-is : (i j : ℕ) → i < sourceCount b → firstLineIn (sourceEntry b i) ≤ j → j < firstLineIn (sourceEntry b i) + lineCountIn (sourceEntry b i)
       → getD allLines j Bad ≡ readAs i j
@@ -97,7 +84,7 @@ module _ (b : List ℕ) (l : LaidRight b) where
       → (i : ℕ) × (i < sourceCount b) × (firstLineIn (sourceEntry b i) ≤ j) × (j < firstLineIn (sourceEntry b i) + lineCountIn (sourceEntry b i))
   unfolding lineStart
   line-of j m =
-      let t : lineStart b (0 + sourceCount b) ≡ lineCount b = ap (lineStart b) (zero-add (sourceCount b)) ∙ l .lastLine in
+      let t : lineStart b (0 + sourceCount b) ≡ lineCount b = ap (lineStart b) (zero-add (sourceCount b)) ∙ last-line in
       let r = blocks-find (λ i. decodedLines (sourceAt b i)) (lineStart b) (λ i. lineCountIn (sourceEntry b i)) readAs (sourceCount b) 0 j line-blocks (omega arith) (omega arith) in
       let n : r .0 < sourceCount b = omega (arith, r .2) in
       let e = standing (r .0) n .line in

@@ -17,16 +17,8 @@ use Rattle.meaning.specs.Register.{Source, registerTag, registerLayout, yearOf,
 use Rattle.demands.specs.Valid.{LaidRight, LineFits, Encodable}
 use Rattle.basis.proofs.Counting.{counted-none}
 use Rattle.basis.proofs.Rows.{numberAt-drop, read-rows, each-bytes, joined-bytes}
-use Rattle.demands.proofs.Calculation.{Placed}
+use Rattle.demands.proofs.Figures.{lines-before, names-before, standing-placed, standing, not-misplaced}
 use Rattle.demands.proofs.EncodedEntries.{StandAt, stand-first, stand-next, numbers-at, length-line, line-back, line-bytes, rowsOf, rows-append, length-lines, linesOf, namesOf, entryWidths, entryNumbers, length-more, Room, room-next, entry-fits, length-entry, length-entries, each-line, names-bytes, entries-bytes}
-
--- an entry that begins where it should and does not run past what there is
-not-misplaced : (b : List ℕ) (i : ℕ) → Placed b i → misplaced b i ≡ false
-unfolding misplaced
-not-misplaced b i p =
-    false-or _ _
-    (false-or _ _ (false-or _ _ (ap not (eq-eqb _ _ (p .line))) (ap not (eq-eqb _ _ (p .name)))) (le-ltb _ _ (p .lines)))
-    (le-ltb _ _ (p .names))
 
 -- From entry j on, a register holds the entries, the lines and the names of these sources, which begin at this line and at this name byte.
 record Ahead (b : List ℕ) (j line byte : ℕ) (ss : List Source) : Type 0 where
@@ -303,7 +295,7 @@ module _ (year : ℕ) (ss : List Source) (v : Encodable year ss) where
         atNames = rw (sources-in, lines-in) (in-header 7 (omega arith));
         whole = rw (sources-in, lines-in, names-in) (in-header 8 (omega arith));
         filled = rw (sources-in, lines-in, names-in) length-whole;
-        placed = λ i l. counted-none (misplaced bytes) n 0 (r .placed) i (omega arith) (omega (arith, sources-in));
-        lastLine = ap (lineStart bytes) last ∙ r .lastLine;
-        lastName = ap (nameStart bytes) last ∙ r .lastName;
+        placed = λ i l. standing-placed bytes i (standing bytes i (counted-none (misplaced bytes) n 0 (r .placed) i (omega arith) (omega (arith, sources-in))));
+        lastLine = sym (lines-before bytes (sourceCount bytes)) ∙ ap (lineStart bytes) last ∙ r .lastLine;
+        lastName = sym (names-before bytes (sourceCount bytes)) ∙ ap (nameStart bytes) last ∙ r .lastName;
       }

@@ -15,7 +15,7 @@ use Rattle.meaning.specs.Register.{yearOf, sourceCount, lineCount, nameBytes, s
 use Rattle.demands.specs.Valid.{LaidRight, LineFits, SourceFits, Encodable}
 use Rattle.basis.proofs.Rows.{numberAt-drop, numberAt-fits, unpacked, packed-unpacked, bytes-drop, bytes-take, write-rows}
 use Rattle.demands.proofs.RegisterTests.{length-sources}
-use Rattle.demands.proofs.Calculation.{standing, next-line}
+use Rattle.demands.proofs.Calculation.{standing, next-line, last-line, last-name}
 use Rattle.demands.proofs.EncodedEntries.{lineWidths, lineNumbers, rowsOf, linesOf, namesOf, entryWidths, entryNumbers}
 use Rattle.demands.proofs.Encoded.{registerWidths, registerNumbers}
 
@@ -117,7 +117,7 @@ module _ (b : List ℕ) (h : Bytes b) (v : LaidRight b) where
   lines-of =
       let count : ℕ → ℕ = λ i. lineCountIn (sourceEntry b i) in
       ap joined (map-map (λ s. s .lines) (sourceAt b) (countUp 0 (sourceCount b)))
-      ∙ pieces-whole linePiece (λ x. refl) (counted-append (lineAt b)) (λ i. sourceAt b i .lines) (lineStart b) count (sourceCount b) (lineCount b) refl (v .lastLine)
+      ∙ pieces-whole linePiece (λ x. refl) (counted-append (lineAt b)) (λ i. sourceAt b i .lines) (lineStart b) count (sourceCount b) (lineCount b) refl (last-line b v)
       (λ i l. (ap (λ (x : ℕ). linePiece x (count i)) (standing b v i l .line), next-line b v i l))
 
   namePiece : ℕ → ℕ → List ℕ
@@ -134,7 +134,7 @@ module _ (b : List ℕ) (h : Bytes b) (v : LaidRight b) where
   names-of =
       let count : ℕ → ℕ = λ i. nameLengthIn (sourceEntry b i) in
       ap joined (map-map (λ s. s .name) (sourceAt b) (countUp 0 (sourceCount b)))
-      ∙ pieces-whole namePiece (λ x. refl) pieces-names (λ i. sourceAt b i .name) (nameStart b) count (sourceCount b) (nameBytes b) refl (v .lastName)
+      ∙ pieces-whole namePiece (λ x. refl) pieces-names (λ i. sourceAt b i .name) (nameStart b) count (sourceCount b) (nameBytes b) refl (last-name b v)
       (λ i l. (ap (λ (x : ℕ). namePiece x (count i)) (standing b v i l .name), next-name i l))
       ∙ ap (λ (x : ℕ). take (nameBytes b) (drop x b)) (add-zero (namesAt (sourceCount b) (lineCount b)))
 

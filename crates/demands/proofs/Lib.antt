@@ -2,6 +2,7 @@ pub mod Among
 pub mod Readings
 pub mod Table
 pub mod Tabled
+pub mod Figures
 pub mod Order
 pub mod Exactly
 pub mod Reports

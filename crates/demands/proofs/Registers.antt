@@ -20,6 +20,7 @@ use Rattle.meaning.specs.Methods.{listed}
 use Rattle.meaning.specs.Register.{Source, registerTag, registerLayout, yearOf, isYear, sourceCount, mostSources, lineCount, mostLines, nameBytes, mostNameBytes, sourcesAt, linesAt, namesAt, wholeLength, headerTests, sourceAt, sourcesOf, lineStart, nameStart, misplaced, unsound, wrongSource, sourceTest, restTest, repeats, repeatTest, registerTests}
 use Rattle.demands.specs.Valid.{Distinct, LaidRight}
 use Rattle.basis.proofs.Rows.{starts-tag, taken-starts}
+use Rattle.demands.proofs.Figures.{lines-before, names-before, standing-placed, placed-standing, standing, not-misplaced}
 use Rattle.demands.proofs.RegisterTests.{noSource, sourceNumber, repeats-some, some-repeats}
 
 -- different keys, by index
@@ -90,7 +91,7 @@ passed b e =
     let h2 = h .1 .1 .1 .1 .1 .1 .1 .1 .1 .1 in
     let y = and-true _ _ (not-false _ (passed-if _ 2 6 (h .1 .1 .1 .0))) in
     let w = or-false _ _ (passed-if _ 2 28 (h2 .0)) in
-    let placed = passed-at-all 3 (wrongSource b) (sourceCount b) .0 (h2 .1 .0) in
+    let right = passed-at-all 3 (wrongSource b) (sourceCount b) .0 (h2 .1 .0) in
     let r = or-false _ _ (passed-if _ 3 (sourceCount b) (h2 .1 .1 .0)) in
     record {
       laid =
@@ -107,11 +108,11 @@ passed b e =
             atNames = same _ _ 2 24 (h .1 .1 .1 .1 .1 .1 .1 .1 .1 .0);
             whole = eqb-true _ _ (not-false _ (w .0));
             filled = eqb-true _ _ (not-false _ (w .1));
-            placed = λ i l. or-false (misplaced b i) (unsound (sourceAt b i)) (placed i l) .0;
-            lastLine = eqb-true _ _ (not-false _ (r .0));
-            lastName = eqb-true _ _ (not-false _ (r .1));
+            placed = λ i l. standing-placed b i (standing b i (or-false (misplaced b i) (unsound (sourceAt b i)) (right i l) .0));
+            lastLine = sym (lines-before b (sourceCount b)) ∙ eqb-true _ _ (not-false _ (r .0));
+            lastName = sym (names-before b (sourceCount b)) ∙ eqb-true _ _ (not-false _ (r .1));
           };
-      sound = λ i l. or-false (misplaced b i) (unsound (sourceAt b i)) (placed i l) .1;
+      sound = λ i l. or-false (misplaced b i) (unsound (sourceAt b i)) (right i l) .1;
       once = not-repeated (sourcesOf b) (h2 .1 .1 .1 .0);
     }
 
@@ -152,10 +153,10 @@ passing b h =
                           if-passed (not (eqb (numberAt 4 b 28) whole) || not (eqb (length b) whole)) 2 28
                               (false-or (not (eqb (numberAt 4 b 28) whole)) (not (eqb (length b) whole)) (ap not (eq-eqb _ _ (l .whole))) (ap not (eq-eqb _ _ (l .filled)))),
                           (
-                            passed-at-all 3 (wrongSource b) n .1 (λ i m. false-or (misplaced b i) (unsound (sourceAt b i)) (l .placed i m) (h .sound i m)),
+                            passed-at-all 3 (wrongSource b) n .1 (λ i m. false-or (misplaced b i) (unsound (sourceAt b i)) (not-misplaced b i (placed-standing b i (l .placed i m))) (h .sound i m)),
                             (
                               if-passed (not (eqb (lineStart b n) (lineCount b)) || not (eqb (nameStart b n) (nameBytes b))) 3 n
-                                  (false-or (not (eqb (lineStart b n) (lineCount b))) (not (eqb (nameStart b n) (nameBytes b))) (ap not (eq-eqb _ _ (l .lastLine))) (ap not (eq-eqb _ _ (l .lastName)))),
+                                  (false-or (not (eqb (lineStart b n) (lineCount b))) (not (eqb (nameStart b n) (nameBytes b))) (ap not (eq-eqb _ _ (lines-before b n ∙ l .lastLine))) (ap not (eq-eqb _ _ (names-before b n ∙ l .lastName)))),
                               (repeated-not (sourcesOf b) (h .once), tt),
                             ),
                           ),

@@ -19,13 +19,13 @@ use Rattle.basis.proofs.Bools.{clash, not-both}
 use Rattle.meaning.specs.Register.{mostSources}
 use Rattle.meaning.specs.Report.{Entry, reportYear, entryCount, entryAt, entryIn, entriesOf, inOrder, wellFormed}
 use Rattle.meaning.specs.Calls.{formTest, yearTest, sharedAt, sharedTest, countTest, numbered, absentTest}
-use Rattle.demands.specs.Valid.{Entered, entryNumber, Reportable}
+use Rattle.demands.specs.Valid.{Entered, entryNumber, noEntry, Reportable}
 use Rattle.demands.specs.Exactly.{Nowhere, at}
 use Rattle.demands.specs.Refusals.{NoReport, HasNumber, InBoth}
 use Rattle.basis.proofs.Counting.{any-some, some-any, any-map}
 use Rattle.demands.proofs.Order.{ascending-each, ascending-distinct, ascending-lt, sorted-ascending, distinct-append}
 use Rattle.demands.proofs.Exactly.{Decides, decide-if}
-use Rattle.demands.proofs.Reports.{noEntry, report-right}
+use Rattle.demands.proofs.Reports.{report-right}
 use Rattle.demands.proofs.WellFormed.{formed, reportable, report-again, count-is, entry-at}
 
 -- 9

@@ -17,7 +17,8 @@ use Rattle.meaning.specs.Methods.{within}
 use Rattle.meaning.specs.Masses.{gasCount, gases, warming, weighed, equivalent, limit}
 use Rattle.meaning.specs.Register.{mostSources}
 use Rattle.meaning.specs.Report.{Entry, figures, figureCount, figure, totals, reportTag, reportLayout, entriesAt, entryLength, reportLength, reportHeader, entryBytes, reportBytes, reportYear, entryCount, totalAt, entryAt, figureIn, entryIn, entriesOf, headerRight, numberBefore, wrongEntry, wrongTotal, wellFormed}
-use Rattle.demands.specs.Valid.{Entered, Ascending, entryNumber, Reportable}
+use Rattle.demands.specs.Valid.{Entered, Ascending, entryNumber, noEntry, Reportable}
+use Rattle.demands.proofs.Figures.{equivalent-is}
 use Rattle.basis.proofs.Counting.{none-counted, getD-counted, counted-list, sum-widths, sum-bounded}
 use Rattle.basis.proofs.Rows.{tag-starts, numberAt-behind, read-rows, row-at, length-rows, each-bytes, joined-bytes}
 
@@ -40,12 +41,15 @@ last-bounded [] q b (suc k) h l = zero-le
 last-bounded (m ∷ ms) q b zero h l = h 0
 last-bounded (m ∷ ms) q b (suc k) h l = last-bounded ms q b k (λ i. h (suc i)) l
 
+pub equivalent-within : (e : Entry) → Entered e → equivalent (e .masses) ≤ limit
+equivalent-within e v = rw (equivalent-is e (v .gases)) (v .within)
+
 pub figure-bounded : (k : ℕ) (e : Entry) → Entered e → figure k e ≤ limit
 unfolding figure figures equivalent
 figure-bounded k e v =
     last-bounded (e .masses) (equivalent (e .masses)) limit k
-    (λ i. le-trans (mass-weighed warming (e .masses) i (omega arith) (omega (arith, v .gases))) (v .within))
-    (v .within)
+    (λ i. le-trans (mass-weighed warming (e .masses) i (omega arith) (omega (arith, v .gases))) (equivalent-within e v))
+    (equivalent-within e v)
 
 abbrev eights : ℕ → List ℕ
 eights n = replicate n 8
@@ -134,9 +138,6 @@ module _ (e : Entry) (v : Entered e) (rest : List ℕ) where
   pub equivalent-at : figureIn (entryBytes e ++ rest) gasCount ≡ equivalent (e .masses)
   unfolding figure figures
   equivalent-at = figure-at gasCount (omega arith) ∙ (rw (v .gases) at (getD-append-seam (e .masses) (equivalent (e .masses)) [] 0))
-
-abbrev pub noEntry : Entry
-noEntry = record { number = 0; method = 0; masses = [] }
 
 -- the number before index i, in entries whose numbers are above n
 abbrev pub prior : ℕ → List Entry → ℕ → ℕ
@@ -270,7 +271,7 @@ module _ (y : ℕ) (es : List Entry) (v : Reportable y es) where
       let low : leb 1 (e .method) ≡ true = le-leb 1 (e .method) (w .method .0) in
       let high : leb (e .method) 6 ≡ true = le-leb (e .method) 6 (w .method .1) in
       let same : eqb (equivalent (e .masses)) (equivalent (e .masses)) ≡ true = eq-eqb (equivalent (e .masses)) (equivalent (e .masses)) refl in
-      let kept : ltb limit (equivalent (e .masses)) ≡ false = le-ltb limit (equivalent (e .masses)) (w .within) in
+      let kept : ltb limit (equivalent (e .masses)) ≡ false = le-ltb limit (equivalent (e .masses)) (equivalent-within e w) in
       rw (entry-is i l, before-is i l, zeros, right, up, low, high, same, kept)
 
   total-right : (k : ℕ) → k < figureCount → wrongTotal (reportBytes y es) k ≡ false

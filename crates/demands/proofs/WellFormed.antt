@@ -16,9 +16,10 @@ use Rattle.meaning.specs.Methods.{within}
 use Rattle.meaning.specs.Masses.{gasCount, gases, equivalent, limit}
 use Rattle.meaning.specs.Register.{mostSources}
 use Rattle.meaning.specs.Report.{Entry, figures, figureCount, totals, reportTag, reportLayout, entriesAt, entryLength, reportLength, reportHeader, entryBytes, reportBytes, reportYear, entryCount, totalAt, entryAt, figureIn, entryIn, entriesOf, headerRight, numberBefore, wrongEntry, wrongTotal, wellFormed}
-use Rattle.demands.specs.Valid.{Entered, Reportable}
+use Rattle.demands.specs.Valid.{Entered, noEntry, Reportable}
 use Rattle.basis.proofs.Counting.{counted-none, getD-counted, counted-list}
-use Rattle.demands.proofs.Reports.{noEntry, prior, at-ascending, headerWidths, headerNumbers, length-totals}
+use Rattle.demands.proofs.Figures.{equivalent-is}
+use Rattle.demands.proofs.Reports.{ prior, at-ascending, headerWidths, headerNumbers, length-totals}
 use Rattle.basis.proofs.Rows.{starts-tag, numberAt-drop, numberAt-fits, unpacked, unpacked-same, packed-unpacked, bytes-drop, write-rows}
 
 -- what a right header says
@@ -134,11 +135,12 @@ module _ (b : List ℕ) (h : Bytes b) (f : Formed b) where
   unfolding entryIn
   entered i l =
       let e = f .entry i l in
+      let three : length (map (figureIn (entryAt b i)) gases) ≡ 3 = length-map gases (figureIn (entryAt b i)) ∙ length-countUp 0 gasCount in
       record {
         number = numberAt-fits 4 (entryAt b i) 0 (bytes-drop (entriesAt + entryLength * i) b h);
         method = e .method;
-        gases = length-map gases (figureIn (entryAt b i)) ∙ length-countUp 0 gasCount;
-        within = e .kept;
+        gases = three;
+        within = rw (← equivalent-is (entryIn (entryAt b i)) three) (e .kept);
       }
 
   before-at : (i : ℕ) → i < entryCount b → prior 0 (entriesOf b) i ≡ numberBefore b i

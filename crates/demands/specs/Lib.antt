@@ -1,4 +1,5 @@
 pub mod Table
+pub mod Fields
 pub mod Valid
 pub mod Exactly
 pub mod Refusals
