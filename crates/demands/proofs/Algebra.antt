@@ -27,7 +27,7 @@ use Rattle.demands.proofs.Exactly.{Decides, first-decides}
 use Rattle.demands.proofs.Reports.{year-back, entries-back, report-bytes}
 use Rattle.demands.proofs.ReportCalls.{combination-decides, combination-passed, both-reportable}
 use Rattle.demands.proofs.Combined.{accepted-written}
-use Rattle.demands.proofs.Removal.{good-made}
+use Rattle.demands.proofs.ReportTests.{formed-report}
 
 -- rows that say the same refuse alike
 abbrev Agree : List Row → List Row → Type 0
@@ -52,7 +52,7 @@ same-verdict Passes (Refuses n p) rows rows′ d e a = absurd (never (d n p .1 (
 same-verdict (Refuses n p) w rows rows′ d e a = sym (e n p .1 (agree-first rows rows′ a n p .0 (d n p .0 refl)))
 
 no-such : (b : List ℕ) → GoodReport b → NoReport b → ⊥
-no-such b g f = let r = good-made b g in f (reportYear b) (entriesOf b) (r .0) (r .1)
+no-such b g f = f (reportYear b) (entriesOf b) (formed-report b (g .bytes) (g .formed))
 
 module _ (one other : List ℕ) (g : GoodReport one) (h : GoodReport other) (buffer : List ℕ) where
   agree : Agree (combinationRows one other (length buffer)) (combinationRows other one (length buffer))

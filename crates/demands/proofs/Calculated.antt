@@ -24,7 +24,8 @@ use Rattle.meaning.specs.Report.{entryOf, inOrder, reportBytes, reportLength}
 use Rattle.meaning.specs.Calls.{roomTest, badLine, lineTest, massFault, faultAt, massTest, entriesFor, calculated, calculationTests, calculatedReport}
 use Rattle.meaning.proofs.Laws.{one-entry-each}
 use Rattle.demands.specs.Valid.{Entered, Distinct, entryNumber, Reportable}
-use Rattle.demands.specs.Demand1.{Among, Answers}
+use Rattle.demands.specs.Demand1.{Answers}
+use Rattle.demands.specs.Table.{Among}
 use Rattle.demands.specs.Exactly.{Exactly}
 use Rattle.demands.specs.Refusals.{registerRows, calculationRows}
 use Rattle.basis.proofs.Counting.{any-some, some-any, any-append, append-any}
@@ -196,6 +197,10 @@ module _ (b : List ℕ) (h : Bytes b) where
   made-length p c =
       length-report (yearOf b) (entriesFor (sourcesOf b)) (register-makes p c) ∙ ap reportLength (one-entry-each (sourcesOf b) .1 ∙ length-sources b)
 
+  source-good : lineTest (sourcesOf b) ≡ Passes → (i : ℕ) → i < sourceCount b → any isBad (decodedLines (sourceAt b i)) ≡ false
+  source-good e i l =
+      rw (source-at b i l) at (each-at (λ s. any isBad (decodedLines s) ≡ false) (sourcesOf b) noSource (lines-good (sourcesOf b) e) i (rw (length-sources b) l))
+
   -- all its tests, that of the room last; and those that come behind the register's
   abbrev pub allTests : List ℕ → List Verdict
   allTests report = calculationTests b ++ (roomTest (calculatedReport b) report ∷ [])
@@ -211,7 +216,7 @@ module _ (b : List ℕ) (h : Bytes b) where
       rw (parted report)
       (decide-append (registerTests b) (later report) (registerRows b) _ (register-decides b)
       (λ p. let q = passed b p in
-      (line-decides b (q .laid), λ l. (mass-decides b, λ m. (room-decides (calculatedReport b) report (reportLength (sourceCount b)) (made-length q (calculable q l m)), λ _. tt)))))
+      (line-decides b (q .laid), λ l. (mass-decides b (source-good l), λ m. (room-decides (calculatedReport b) report (reportLength (sourceCount b)) (made-length q (calculable q l m)), λ _. tt)))))
 
   numbers : (report : List ℕ) → Numbered calculationNumbers (calculationRows b (length report))
   numbers report =

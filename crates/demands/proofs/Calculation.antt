@@ -10,7 +10,7 @@ use native.Mathlib.Omega.{arith}
 use lib.Dec.{eqb, ltb}
 use lib.ListN.{length, getD, length-map, List·getD-map}
 use borrow.Author.Tests.{ltb-true, ltb-false, eqb-true, eqb-false, lt-ltb, ne-eqb, not-true, not-false}
-use Rattle.basis.specs.Lists.{sum, countUp, joined}
+use Rattle.basis.specs.Lists.{sum, countUp, joined, any}
 use Rattle.basis.proofs.Bools.{clash, or-false, not-both}
 use Rattle.meaning.specs.declared.Decoded.{Decoded}
 use Rattle.meaning.specs.declared.Decoded.the-variants.{Good, Bad}
@@ -20,7 +20,11 @@ use Rattle.meaning.specs.Register.{Source, sourceCount, lineCount, nameBytes, l
 use Rattle.meaning.specs.Calls.{badLine, lineTest, massFault, faultAt, massTest}
 use Rattle.demands.specs.Valid.{LaidRight}
 use Rattle.demands.specs.Exactly.{at, atSmallest, withNumber}
-use Rattle.demands.specs.Refusals.{BadLine, BelowZero, AboveLimit, MassFault}
+use Rattle.demands.specs.Refusals.{BadLine, MassFault}
+use Rattle.demands.specs.Table.{FitAll}
+use Rattle.demands.specs.Fields.{method, parameter, lineAt as line, linesOf}
+use Rattle.demands.proofs.Table.{bad-exactly}
+use Rattle.demands.proofs.Sums.{rows-found, below-then, above-then, then-below, then-above}
 use Rattle.basis.proofs.Blocks.{Blocks, blocks-length, blocks-find, blocks-at}
 use Rattle.demands.proofs.Figures.{lines-before, names-before, Standing, placed-standing}
 use Rattle.demands.proofs.Exactly.{Decides, decide-first}
@@ -99,29 +103,45 @@ module _ (b : List ℕ) (l : LaidRight b) where
   line-decides =
       rw length-lines
       (decide-at-first 5 (badLine allLines) (lineCount b) (BadLine b)
-      (λ j m e. let r = line-of j m in (r .0, r .1, r .2, r .3, sym (line-is (r .0) j (r .1) (r .2) (r .3)) ∙ bad-is (getD allLines j Bad) e))
-      (λ j m r. ap isBad (line-is (r .0) j (r .1) (r .2) (r .3) ∙ r .4)))
+      (λ j m e.
+      let r = line-of j m in
+      (r .0, r .1, r .2, r .3, bad-exactly (method b (r .0)) (parameter b (r .0)) (line b j) .0 (sym (line-is (r .0) j (r .1) (r .2) (r .3)) ∙ bad-is (getD allLines j Bad) e)))
+      (λ j m r. ap isBad (line-is (r .0) j (r .1) (r .2) (r .3) ∙ bad-exactly (method b (r .0)) (parameter b (r .0)) (line b j) .1 (r .4))))
 
--- 6 and 7: what a source is refused for
-abbrev pub Fault : ℕ → Source → Type 0
-Fault n s = ((n ≡ 6) × BelowZero s) ⊎ ((n ≡ 7) × (BelowZero s → ⊥) × AboveLimit s)
-
+-- 6 and 7: what a source is refused for, its lines being good
 abbrev picked : Bool → Bool → ℕ
 picked c d = cond c 6 (cond d 7 0)
 
-fault-is : (s : Source) → massFault s ≢ 0 → Fault (massFault s) s
-unfolding massFault belowZero
-fault-is s h = by (belowZero (decodedLines s)) refl (ltb limit (equivalent (masses (decodedLines s)))) refl h
+fault-is : (b : List ℕ) (i : ℕ) → any isBad (decodedLines (sourceAt b i)) ≡ false → massFault (sourceAt b i) ≢ 0 → MassFault b (massFault (sourceAt b i)) i
+unfolding massFault decodedLines sourceAt
+fault-is b i good h = by (belowZero ds) refl (ltb limit (equivalent (masses ds))) refl h
   where
-    by : (c : Bool) → belowZero (decodedLines s) ≡ c → (d : Bool) → ltb limit (equivalent (masses (decodedLines s))) ≡ d → picked c d ≢ 0 → Fault (picked c d) s
-    by true p d q h = inl (refl, ltb-true _ _ p)
-    by false p true q h = inr (refl, (λ z. clash (lt-ltb _ _ z) p), ltb-true _ _ q)
-    by false p false q h = absurd (h refl)
+    m : ℕ
+    m = method b i
 
-is-fault : (n : ℕ) (s : Source) → Fault n s → massFault s ≡ n
-unfolding massFault belowZero
-is-fault n s (inl f) = rw (lt-ltb _ _ (f .1)) (sym (f .0))
-is-fault n s (inr f) = rw (not-both (belowZero (decodedLines s)) (λ e. f .1 (ltb-true _ _ e)), lt-ltb _ _ (f .2)) (sym (f .0))
+    p : ℕ
+    p = parameter b i
+
+    ds : List Decoded
+    ds = map (decoded m p) (linesOf b i)
+
+    r : (rows : List ℕ) × FitAll m p rows (linesOf b i)
+    r = rows-found m p (linesOf b i) good
+
+    by : (c : Bool) → belowZero ds ≡ c → (d : Bool) → ltb limit (equivalent (masses ds)) ≡ d → picked c d ≢ 0 → MassFault b (picked c d) i
+    by true e d q h = inl (refl, below-then m p (r .0) (linesOf b i) (r .1) e)
+    by false e true q h = inr (refl, (λ z. clash (then-below m p (linesOf b i) z) e), above-then m p (r .0) (linesOf b i) (r .1) q)
+    by false e false q h = absurd (h refl)
+
+is-fault : (b : List ℕ) (i n : ℕ) → any isBad (decodedLines (sourceAt b i)) ≡ false → MassFault b n i → massFault (sourceAt b i) ≡ n
+unfolding massFault decodedLines sourceAt
+is-fault b i n good (inl f) = rw (then-below (method b i) (parameter b i) (linesOf b i) (f .1)) (sym (f .0))
+is-fault b i n good (inr f) =
+    let m = method b i in
+    let p = parameter b i in
+    let ls = linesOf b i in
+    let r = rows-found m p ls good in
+    rw (not-both (belowZero (map (decoded m p) ls)) (λ e. f .1 (below-then m p (r .0) ls (r .1) e)), then-above m p ls (f .2)) (sym (f .0))
 
 fault-at : (b : List ℕ) (i : ℕ) → i < sourceCount b → getD (map massFault (sourcesOf b)) i (massFault noSource) ≡ massFault (sourceAt b i)
 fault-at b i l = List·getD-map massFault (sourcesOf b) i noSource ∙ ap massFault (source-at b i l)
@@ -130,18 +150,19 @@ pub no-fault : massFault noSource ≡ 0
 unfolding massFault belowZero decodedLines added taken sum masses mass rounded countUp equivalent weighed
 no-fault = refl
 
-fault-not-none : (n : ℕ) (s : Source) → Fault n s → n ≢ 0
-fault-not-none n s (inl f) e = omega arith
-fault-not-none n s (inr f) e = omega arith
+fault-not-none : (b : List ℕ) (n i : ℕ) → MassFault b n i → n ≢ 0
+fault-not-none b n i (inl f) e = omega arith
+fault-not-none b n i (inr f) e = omega arith
 
-pub mass-decides : (b : List ℕ) → Decides (massTest (sourcesOf b)) (atSmallest (sourceCount b) (MassFault b))
+pub mass-decides : (b : List ℕ) → ((i : ℕ) → i < sourceCount b → any isBad (decodedLines (sourceAt b i)) ≡ false)
+    → Decides (massTest (sourcesOf b)) (atSmallest (sourceCount b) (MassFault b))
 unfolding massTest faultAt
-mass-decides b =
+mass-decides b good =
     let fs = map massFault (sourcesOf b) in
     let e : length fs ≡ sourceCount b = length-map (sourcesOf b) massFault ∙ length-sources b in
     let f : (i : ℕ) → i < sourceCount b → getD fs i 0 ≡ massFault (sourceAt b i) = λ i l. rw no-fault at (fault-at b i l) in
     rw e
     (decide-first (faultAt fs) (sourceCount b) (λ i. getD fs i 0) (MassFault b)
-    (λ i l t. rw (f i l) (fault-is (sourceAt b i) (λ z. eqb-false (getD fs i 0) 0 (not-true (eqb (getD fs i 0) 0) t) (f i l ∙ z))))
-    (λ i n l w. let q : n ≡ getD fs i 0 = sym (is-fault n (sourceAt b i) w) ∙ sym (f i l) in
-    (ap not (ne-eqb (getD fs i 0) 0 (λ z. fault-not-none n (sourceAt b i) w (q ∙ z))), q)))
+    (λ i l t. rw (f i l) (fault-is b i (good i l) (λ z. eqb-false (getD fs i 0) 0 (not-true (eqb (getD fs i 0) 0) t) (f i l ∙ z))))
+    (λ i n l w. let q : n ≡ getD fs i 0 = sym (is-fault b i n (good i l) w) ∙ sym (f i l) in
+    (ap not (ne-eqb (getD fs i 0) 0 (λ z. fault-not-none b n i w (q ∙ z))), q)))

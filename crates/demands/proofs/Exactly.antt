@@ -18,7 +18,8 @@ use Rattle.basis.proofs.Answers.{never, refuses-number, refuses-place, refuses-
 use Rattle.basis.proofs.Bytes.{length-splice}
 use Rattle.basis.proofs.Bools.{clash, not-both}
 use Rattle.meaning.specs.Calls.{roomTest, written}
-use Rattle.demands.specs.Demand1.{Among, FromTable, Answers}
+use Rattle.demands.specs.Demand1.{FromTable, Answers}
+use Rattle.demands.specs.Table.{Among}
 use Rattle.demands.specs.Exactly.{Row, Nowhere, at, atSmallest, FirstOf, Exactly}
 
 -- a test refuses exactly where its row does

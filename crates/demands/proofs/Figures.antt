@@ -15,7 +15,7 @@ use Rattle.demands.specs.Fields.{linesIn, nameBytesIn, lineCount, firstL
 use Rattle.demands.specs.Valid.{equivalentOf, Placed}
 
 -- three masses, weighed
-weighed-three : (ms : List ℕ) → length ms ≡ 3 → equivalent ms ≡ getD ms 0 0 + 25 * getD ms 1 0 + 298 * getD ms 2 0
+pub weighed-three : (ms : List ℕ) → length ms ≡ 3 → equivalent ms ≡ getD ms 0 0 + 25 * getD ms 1 0 + 298 * getD ms 2 0
 unfolding equivalent weighed
 weighed-three [] e = absurd (omega arith)
 weighed-three (x ∷ []) e = absurd (omega arith)

@@ -3,10 +3,13 @@ pub mod Readings
 pub mod Table
 pub mod Tabled
 pub mod Figures
+pub mod Sums
+pub mod WrongSource
 pub mod Order
 pub mod Exactly
 pub mod Reports
 pub mod WellFormed
+pub mod Holds
 pub mod ReportTests
 pub mod ReportCalls
 pub mod RegisterTests

@@ -23,23 +23,15 @@ use Rattle.meaning.specs.Methods.{decoded}
 use Rattle.meaning.specs.Calls.{roomTest, written, massFault, entriesFor, bothEntries, calculated, combined, removed, combinationTests, combinedReport, removalTests, removedReport, calculationTests, calculatedReport}
 use Rattle.meaning.proofs.Laws.{one-entry-each, entries-of-both}
 use Rattle.demands.specs.Valid.{entryNumber, Reportable}
-use Rattle.demands.specs.Demand2.{Nearest, Reports, Masses, Fixed}
+use Rattle.demands.specs.Demand2.{Reports, Masses, Fixed}
+use Rattle.demands.specs.Table.{Nearest}
 use Rattle.basis.proofs.Counting.{getD-counted}
+use Rattle.demands.proofs.Sums.{rounds}
 use Rattle.demands.proofs.Reports.{total-is, total-at, total-fits, report-right}
 use Rattle.demands.proofs.RegisterTests.{noSource, length-sources, source-at}
 use Rattle.demands.proofs.Calculated.{Calculable, accepted, register-makes}
 use Rattle.demands.proofs.ReportCalls.{both-reportable, combination-passed, removal-passed}
 use Rattle.demands.proofs.EveryDealing.{sum-perm}
-
-rounds : (n d r : ℕ) → 0 < d → (rounded n d ≡ r) ↔ Nearest n d r
-unfolding rounded
-rounds n d r h = (
-  λ e.
-      let low : r * (2 * d) ≤ 2 * n + d = le-div-iff-mul-le {k = 2 * d} (omega arith) .0 (omega arith) in
-      let high : 2 * n + d < (r + 1) * (2 * d) = div-lt-iff-lt-mul {k = 2 * d} (omega arith) .0 (omega arith) in
-      (omega arith, omega arith),
-  λ w. div-eq-of-lt-le (2 * d) (omega arith) (omega arith),
-)
 
 positive : (g : ℕ) → 0 < getD divisors g 1
 positive zero = omega arith

@@ -13,7 +13,9 @@ use borrow.Author.Tests.{ltb-true, leb-false, eqb-true, eqb-false, lt-ltb, lt-le
 use Rattle.basis.specs.Bytes.{numberAt, ascii, startsWith}
 use Rattle.basis.specs.Lists.{countUp, stands}
 use Rattle.basis.specs.First.{first}
-use Rattle.basis.specs.Answers.{refuseIf, refuseAtFirst}
+use Rattle.basis.specs.Answers.{refuseIf, refuseAtFirst, firstRefusal}
+use Rattle.basis.specs.declared.Verdict.the-variants.{Passes}
+use Rattle.basis.proofs.Answers.{each-passes, passed-if}
 use Rattle.basis.proofs.Lists.{length-countUp}
 use Rattle.basis.proofs.Bools.{clash, and-true, or-false, either-or, or-either}
 use Rattle.meaning.specs.Register.{Source, registerTag, registerLayout, yearOf, isYear, sourceCount, mostSources, lineCount, mostLines, nameBytes, mostNameBytes, sourcesAt, linesAt, namesAt, wholeLength, headerTests, sourceEntry, numberIn, sourceAt, sourcesOf, lineStart, nameStart, misplaced, unsound, wrongSource, sourceTest, restTest, repeats, repeatTest, registerTests}
@@ -21,6 +23,9 @@ use Rattle.demands.specs.Exactly.{at, atSmallest, withNumber}
 use Rattle.demands.specs.Refusals.{headerRows, WrongSource, Repeated, registerRows}
 use Rattle.basis.proofs.Counting.{any-some, some-any, getD-counted}
 use Rattle.basis.proofs.Rows.{starts-tag, taken-starts}
+use Rattle.demands.specs.Fields.{linesBefore, namesBefore}
+use Rattle.demands.proofs.Figures.{lines-before, names-before}
+use Rattle.demands.proofs.WrongSource.{wrong-then, then-wrong}
 use Rattle.demands.proofs.Exactly.{Decides, DecideAll, decide-if, decide-first, decide-append}
 
 -- a test that a number is the one laid down; that it is not above a limit
@@ -94,17 +99,27 @@ unfolding refuseAtFirst
 decide-at-first number test count W right only =
     decide-first test count (λ i. number) (withNumber number W) (λ i l e. (refl, right i l e)) (λ i n l w. (only i l (w .1), w .0))
 
-source-decides : (b : List ℕ) → Decides (sourceTest b) (atSmallest (sourceCount b) (withNumber 3 (WrongSource b)))
-unfolding sourceTest wrongSource
-source-decides b =
-    decide-at-first 3 (wrongSource b) (sourceCount b) (WrongSource b)
-    (λ i l e. or-either (misplaced b i) (unsound (sourceAt b i)) e)
-    (λ i l w. either-or (misplaced b i) (unsound (sourceAt b i)) w)
+source-decides : (b : List ℕ) → length b ≡ wholeLength (sourceCount b) (lineCount b) (nameBytes b)
+    → Decides (sourceTest b) (atSmallest (sourceCount b) (withNumber 3 (WrongSource b)))
+unfolding sourceTest
+source-decides b long =
+    decide-at-first 3 (wrongSource b) (sourceCount b) (WrongSource b) (λ i l. wrong-then b i long) (λ i l. then-wrong b i long)
 
 rest-decides : (b : List ℕ)
-    → Decides (restTest b) (at 3 (sourceCount b) ((lineStart b (sourceCount b) ≢ lineCount b) ⊎ (nameStart b (sourceCount b) ≢ nameBytes b)))
+    → Decides (restTest b) (at 3 (sourceCount b) ((linesBefore b (sourceCount b) ≢ lineCount b) ⊎ (namesBefore b (sourceCount b) ≢ nameBytes b)))
 unfolding restTest
-rest-decides b = decide-either (lineStart b (sourceCount b)) (lineCount b) (nameStart b (sourceCount b)) (nameBytes b) 3 (sourceCount b)
+rest-decides b =
+    rw (lines-before b (sourceCount b), names-before b (sourceCount b))
+    (decide-either (linesBefore b (sourceCount b)) (lineCount b) (namesBefore b (sourceCount b)) (nameBytes b) 3 (sourceCount b))
+
+-- a header that passes states the length of the bytes lent
+header-long : (b : List ℕ) → firstRefusal (headerTests b) ≡ Passes → length b ≡ wholeLength (sourceCount b) (lineCount b) (nameBytes b)
+unfolding headerTests
+header-long b e =
+    let h = each-passes (headerTests b) e in
+    let whole = wholeLength (sourceCount b) (lineCount b) (nameBytes b) in
+    let w = or-false (not (eqb (numberAt 4 b 28) whole)) (not (eqb (length b) whole)) (passed-if _ 2 28 (h .1 .1 .1 .1 .1 .1 .1 .1 .1 .0)) in
+    eqb-true (length b) whole (not-false _ (w .1))
 
 -- the sources of a register, by index
 abbrev pub noSource : Source
@@ -155,5 +170,5 @@ unfolding registerTests
 register-decides b = (
   decide-if (ltb (length b) sourcesAt) 1 0 (length b < sourcesAt) (ltb-true (length b) sourcesAt) (λ e l. clash (lt-ltb (length b) sourcesAt l) e),
   λ _. decide-append (headerTests b) (sourceTest b ∷ restTest b ∷ repeatTest (sourcesOf b) ∷ []) (headerRows b) _ (header-decides b)
-      (λ _. (source-decides b, λ _. (rest-decides b, λ _. (repeat-decides b, λ _. tt)))),
+      (λ h. (source-decides b (header-long b h), λ _. (rest-decides b, λ _. (repeat-decides b, λ _. tt)))),
 )

@@ -19,21 +19,28 @@ use Rattle.basis.proofs.Bools.{clash, not-both}
 use Rattle.meaning.specs.Register.{mostSources}
 use Rattle.meaning.specs.Report.{Entry, reportYear, entryCount, entryAt, entryIn, entriesOf, inOrder, wellFormed}
 use Rattle.meaning.specs.Calls.{formTest, yearTest, sharedAt, sharedTest, countTest, numbered, absentTest}
-use Rattle.demands.specs.Valid.{Entered, entryNumber, noEntry, Reportable}
+use Rattle.demands.specs.Valid.{Entered, entryNumber, noEntry, Reportable, IsReport}
 use Rattle.demands.specs.Exactly.{Nowhere, at}
 use Rattle.demands.specs.Refusals.{NoReport, HasNumber, InBoth}
 use Rattle.basis.proofs.Counting.{any-some, some-any, any-map}
 use Rattle.demands.proofs.Order.{ascending-each, ascending-distinct, ascending-lt, sorted-ascending, distinct-append}
 use Rattle.demands.proofs.Exactly.{Decides, decide-if}
 use Rattle.demands.proofs.Reports.{report-right}
+use Rattle.demands.proofs.Holds.{is-report, written-again}
 use Rattle.demands.proofs.WellFormed.{formed, reportable, report-again, count-is, entry-at}
+
+-- a well-formed report is the report of its year and its entries
+pub formed-report : (b : List ℕ) → Bytes b → wellFormed b ≡ true → IsReport b (reportYear b) (entriesOf b)
+formed-report b h e =
+    let w = formed b e in
+    subst (λ (x : List ℕ). IsReport x (reportYear b) (entriesOf b)) (report-again b h w) (is-report (reportYear b) (entriesOf b) (reportable b h w))
 
 -- 9
 pub form-decides : (b : List ℕ) (which : ℕ) → Bytes b → Decides (formTest b which) (at 9 which (NoReport b))
 form-decides b which h =
     decide-if (not (wellFormed b)) 9 which (NoReport b)
-    (λ e year es v q. clash (ap wellFormed (sym q) ∙ report-right year es v) (not-true (wellFormed b) e))
-    (λ e f. let w = formed b (not-false (wellFormed b) e) in f (reportYear b) (entriesOf b) (reportable b h w) (report-again b h w))
+    (λ e year es r. clash (ap wellFormed (sym (written-again b year es r)) ∙ report-right year es (r .makes)) (not-true (wellFormed b) e))
+    (λ e f. f (reportYear b) (entriesOf b) (formed-report b h (not-false (wellFormed b) e)))
 
 pub passed-form : (b : List ℕ) (which : ℕ) → formTest b which ≡ Passes → wellFormed b ≡ true
 passed-form b which e = by (wellFormed b) refl e

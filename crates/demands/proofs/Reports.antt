@@ -178,7 +178,7 @@ module _ (y : ℕ) (es : List Entry) (v : Reportable y es) where
       append-assoc (reportTag ++ packed headerWidths (headerNumbers y (length es))) (packed (eights figureCount) (totals es)) rows
       ∙ append-assoc reportTag (packed headerWidths (headerNumbers y (length es))) (packed (eights figureCount) (totals es) ++ rows)
 
-  header-at : (i : ℕ) → i < 7 → numberAt (getD headerWidths i 0) (reportBytes y es) (4 + sum (take i headerWidths)) ≡ getD (headerNumbers y (length es)) i 0
+  pub header-at : (i : ℕ) → i < 7 → numberAt (getD headerWidths i 0) (reportBytes y es) (4 + sum (take i headerWidths)) ≡ getD (headerNumbers y (length es)) i 0
   header-at i l =
       let T = packed (eights figureCount) (totals es) ++ rows in
       let N = packed headerWidths (headerNumbers y (length es)) in
@@ -242,7 +242,7 @@ module _ (y : ℕ) (es : List Entry) (v : Reportable y es) where
       let same : eqb (reportLength (length es)) (reportLength (length es)) ≡ true = eq-eqb (reportLength (length es)) (reportLength (length es)) refl in
       rw (count-back, long, tagged, layout, year-back, low, high, few, zero1, offset, size, same, zero2)
 
-  row-is : (i : ℕ) → i < length es → (rest : List ℕ) × (entryAt (reportBytes y es) i ≡ entryBytes (getD es i noEntry) ++ rest)
+  pub row-is : (i : ℕ) → i < length es → (rest : List ℕ) × (entryAt (reportBytes y es) i ≡ entryBytes (getD es i noEntry) ++ rest)
   unfolding rows
   row-is i l = (
     joined (map entryBytes (drop (suc i) es)) ++ [],
@@ -251,7 +251,7 @@ module _ (y : ℕ) (es : List Entry) (v : Reportable y es) where
         ∙ row-at entryBytes entryIn entryLength Entered length-entry noEntry [] es i l (v .each),
   )
 
-  entry-is : (i : ℕ) → i < length es → entryIn (entryAt (reportBytes y es) i) ≡ getD es i noEntry
+  pub entry-is : (i : ℕ) → i < length es → entryIn (entryAt (reportBytes y es) i) ≡ getD es i noEntry
   entry-is i l = let r = row-is i l in ap entryIn (r .1) ∙ entry-back (getD es i noEntry) (each-at Entered es noEntry (v .each) i l) (r .0)
 
   before-is : (i : ℕ) → i < length es → numberBefore (reportBytes y es) i ≡ prior 0 es i

@@ -44,13 +44,13 @@ kept-range l e =
     by false h g = inr (eqb-false (l .unit) 1 h, leb-true (l .a) 99999999 g)
 
 -- a pair that is listed: a method with parameter 0, or one with parameter 1 to 6
-abbrev single : ℕ → Bool
+abbrev pub single : ℕ → Bool
 single m = eqb m 1 || eqb m 2 || eqb m 3 || eqb m 5
 
-abbrev sixfold : ℕ → Bool
+abbrev pub sixfold : ℕ → Bool
 sixfold m = eqb m 4 || eqb m 6
 
-listed-either : (m p : ℕ) → listed m p ≡ true → ((single m ≡ true) × Among (0 ∷ []) p) ⊎ ((sixfold m ≡ true) × Among one-to-six p)
+pub listed-either : (m p : ℕ) → listed m p ≡ true → ((single m ≡ true) × Among (0 ∷ []) p) ⊎ ((sixfold m ≡ true) × Among one-to-six p)
 unfolding countUp
 listed-either m p e =
     ⊎-elim (λ h. let r = and-true (single m) (eqb p 0) h in inl (r .0, inl (eqb-true p 0 (r .1))))
@@ -191,7 +191,7 @@ module _ (m p : ℕ) (l : RawLine) (pair : listed m p ≡ true) (range : inRange
   of-method =
       either 1 _ _ of-fuel (either 2 _ _ of-flare (either 3 _ _ of-metals (either 4 _ _ of-petrochemical (either 5 _ _ of-cement (either 6 _ _ of-nitric-acid bad-good)))))
 
-row-found : (m p : ℕ) (l : RawLine) {x : Line} → decoded m p l ≡ Good x → (i : ℕ) × FitsAt i m p l
+pub row-found : (m p : ℕ) (l : RawLine) {x : Line} → decoded m p l ≡ Good x → (i : ℕ) × FitsAt i m p l
 unfolding decoded
 row-found m p l e =
     ⊎-elim (λ h. let c = and-true (listed m p) (inRange l) (h .0) in of-method m p l (c .0) (c .1) (h .1)) bad-good

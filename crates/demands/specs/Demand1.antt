@@ -9,12 +9,8 @@ use lib.ListN.{length}
 use Rattle.basis.specs.declared.Answer.{Answer}
 use Rattle.basis.specs.Bytes.{Bytes}
 use Rattle.basis.specs.Answers.{Outcome}
+use Rattle.demands.specs.Table.{Among}
 use Rattle.meaning.specs.Calls.{calculated, combined, removed, checked, text}
-
--- a number is one of a list
-abbrev pub Among : List ℕ → ℕ → Type 0
-Among [] n = ⊥
-Among (m ∷ ms) n = (n ≡ m) ⊎ Among ms n
 
 -- acceptance with place 0, or a number of those that the table has for the call, with length 0
 abbrev pub FromTable : List ℕ → Answer → Type 0

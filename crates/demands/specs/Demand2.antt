@@ -20,6 +20,7 @@ use Rattle.meaning.specs.Calls.{calculated, combined, removed, checked, text, f
 use Rattle.demands.specs.Valid.{Ascending, entryNumber, Reportable, LaidRight, Encodable}
 use Rattle.demands.specs.Exactly.{FirstOf, Exactly}
 use Rattle.demands.specs.Refusals.{registerRows, calculationRows, combinationRows, removalRows, checkRows, textRows, textLength}
+use Rattle.demands.specs.Table.{Nearest}
 use Rattle.demands.specs.Trees.{Accepted}
 
 -- Each refusal is given exactly when the table says.
@@ -32,10 +33,6 @@ pub record Refusals : Type 0 where
       → Exactly (removalRows report number (length result)) (reportLength (entryCount report - 1)) (removed report number result .answer)
   pub check : (report : List ℕ) → Bytes report → Exactly (checkRows report) (length report) (checked report)
   pub shown : (report buffer : List ℕ) → Bytes report → Exactly (textRows report (length buffer)) (textLength report) (text report buffer .answer)
-
--- r is the nearest whole number to n over d, an exact half upward
-abbrev pub Nearest : ℕ → ℕ → ℕ → Type 0
-Nearest n d r = (2 * n < (2 * r + 1) * d) × (2 * r * d ≤ 2 * n + d)
 
 -- the report of an accepted register: its entries
 pub record Reports (register : List ℕ) (es : List Entry) : Type 0 where

@@ -2,88 +2,109 @@
 use mathlib.Core.List.{List, [], _∷_, _++_}
 use mathlib.Core.Logic.{_⊎_, _≢_}
 use mathlib.Core.Path.{_≡_}
-use mathlib.Core.Bool.{true}
-use Prim.Native.Nat.{ℕ, _+_, _-_, _≤_, _<_}
+use Prim.Native.Nat.{ℕ, _+_, _*_, _-_, _≤_, _<_, _^_}
 use lib.ListN.{length, take}
-use Rattle.basis.specs.Bytes.{numberAt, ascii}
-use Rattle.meaning.specs.declared.Decoded.the-variants.{Bad}
-use Rattle.meaning.specs.Methods.{decoded}
-use Rattle.meaning.specs.Masses.{carbonDioxide, added, taken, masses, equivalent, limit}
-use Rattle.meaning.specs.Register.{registerLayout, yearOf, sourceCount, mostSources, lineCount, mostLines, nameBytes, mostNameBytes, sourcesAt, linesAt, namesAt, wholeLength, lineAt, sourceEntry, numberIn, methodIn, parameterIn, firstLineIn, lineCountIn, sourceAt, lineStart, nameStart, misplaced, unsound, decodedLines, Source}
-use Rattle.meaning.specs.Report.{Entry, reportBytes, reportLength, reportYear, entryCount, entryAt, entriesOf}
+use Rattle.basis.specs.Bytes.{numberAt, Bytes}
+use Rattle.meaning.specs.declared.RawLine.{RawLine}
+use Rattle.meaning.specs.Report.{Entry, entriesOf}
 use Rattle.meaning.specs.Text.{reportText}
-use Rattle.demands.specs.Valid.{Reportable}
+use Rattle.demands.specs.Table.{Among, one-to-six, CO2, CH4, N2O, adds, takes, NoRow, FitAll, total, Nearest}
+use Rattle.demands.specs.Fields.{yearIn, sourcesIn, linesIn, nameBytesIn, number, method, parameter, lineCount, firstLine, nameLength, nameOffset, linesBefore, namesBefore, nameByte, lineAt, linesOf, reportYear, entriesIn, reportNumber}
+use Rattle.demands.specs.Valid.{IsReport}
 use Rattle.demands.specs.Exactly.{Row, at, atSmallest, withNumber}
 
 -- 2: "a header field is wrong", its first byte
 abbrev pub headerRows : List ℕ → List Row
 headerRows b =
-    at 2 0 (take 4 b ≢ ascii "GREG")
-    ∷ at 2 4 (numberAt 2 b 4 ≢ registerLayout)
-    ∷ at 2 6 ((yearOf b < 1990) ⊎ (2100 < yearOf b))
-    ∷ at 2 8 (mostSources < sourceCount b)
-    ∷ at 2 10 (mostLines < lineCount b)
-    ∷ at 2 12 (mostNameBytes < nameBytes b)
-    ∷ at 2 16 (numberAt 4 b 16 ≢ sourcesAt)
-    ∷ at 2 20 (numberAt 4 b 20 ≢ linesAt (sourceCount b))
-    ∷ at 2 24 (numberAt 4 b 24 ≢ namesAt (sourceCount b) (lineCount b))
-    ∷ at 2 28 ((numberAt 4 b 28 ≢ wholeLength (sourceCount b) (lineCount b) (nameBytes b)) ⊎ (length b ≢ wholeLength (sourceCount b) (lineCount b) (nameBytes b)))
+    at 2 0 (take 4 b ≢ 71 ∷ 82 ∷ 69 ∷ 71 ∷ [])
+    ∷ at 2 4 (numberAt 2 b 4 ≢ 1)
+    ∷ at 2 6 ((yearIn b < 1990) ⊎ (2100 < yearIn b))
+    ∷ at 2 8 (512 < sourcesIn b)
+    ∷ at 2 10 (1024 < linesIn b)
+    ∷ at 2 12 (16384 < nameBytesIn b)
+    ∷ at 2 16 (numberAt 4 b 16 ≢ 32)
+    ∷ at 2 20 (numberAt 4 b 20 ≢ 32 + 16 * sourcesIn b)
+    ∷ at 2 24 (numberAt 4 b 24 ≢ 32 + 16 * sourcesIn b + 20 * linesIn b)
+    ∷ at 2 28
+    ((numberAt 4 b 28 ≢ 32 + 16 * sourcesIn b + 20 * linesIn b + nameBytesIn b) ⊎ (length b ≢ 32 + 16 * sourcesIn b + 20 * linesIn b + nameBytesIn b))
     ∷ []
 
--- 3: entry i does not stand where it should, or its source is not sound
+-- "a pair listed under the methods": the sixteen
+abbrev pub Listed : ℕ → ℕ → Type 0
+Listed m p = (Among (1 ∷ 2 ∷ 3 ∷ 5 ∷ []) m × (p ≡ 0)) ⊎ (Among (4 ∷ 6 ∷ []) m × Among one-to-six p)
+
+-- 3: what may be wrong with source entry i or its name. "number (4, not zero), method and parameter (.. a pair listed ..), line count (2, at least 1)
+-- .. name length (2, 1 to 64)"; "A name byte is none below 32 and not 127"; "each next where the one before ended"; "An entry whose lines or
+-- name run past m or t is itself wrong"
 abbrev pub WrongSource : List ℕ → ℕ → Type 0
-WrongSource b i = (misplaced b i ≡ true) ⊎ (unsound (sourceAt b i) ≡ true)
+WrongSource b i =
+    (number b i ≡ 0)
+    ⊎ (Listed (method b i) (parameter b i) → ⊥)
+    ⊎ (lineCount b i ≡ 0)
+    ⊎ (nameLength b i ≡ 0)
+    ⊎ (64 < nameLength b i)
+    ⊎ ((k : ℕ) × (k < nameLength b i) × ((nameByte b i k < 32) ⊎ (nameByte b i k ≡ 127)))
+    ⊎ (firstLine b i ≢ linesBefore b i)
+    ⊎ (nameOffset b i ≢ namesBefore b i)
+    ⊎ (linesIn b < firstLine b i + lineCount b i)
+    ⊎ (nameBytesIn b < nameOffset b i + nameLength b i)
 
 -- 4: some entry before entry i has its number
 abbrev pub Repeated : List ℕ → ℕ → Type 0
-Repeated b i = (j : ℕ) × (j < i) × (numberIn (sourceEntry b j) ≡ numberIn (sourceEntry b i))
+Repeated b i = (j : ℕ) × (j < i) × (number b j ≡ number b i)
 
 -- 1 to 4, in that order
 abbrev pub registerRows : List ℕ → List Row
 registerRows b =
-    at 1 0 (length b < sourcesAt)
+    at 1 0 (length b < 32)
     ∷ headerRows b
-    ++ (atSmallest (sourceCount b) (withNumber 3 (WrongSource b))
-    ∷ at 3 (sourceCount b) ((lineStart b (sourceCount b) ≢ lineCount b) ⊎ (nameStart b (sourceCount b) ≢ nameBytes b))
-    ∷ atSmallest (sourceCount b) (withNumber 4 (Repeated b))
+    ++ (atSmallest (sourcesIn b) (withNumber 3 (WrongSource b))
+    ∷ at 3 (sourcesIn b) ((linesBefore b (sourcesIn b) ≢ linesIn b) ⊎ (namesBefore b (sourcesIn b) ≢ nameBytesIn b))
+    ∷ atSmallest (sourcesIn b) (withNumber 4 (Repeated b))
     ∷ [])
 
--- 5: line j of the table is among the lines of some source i, and is bad for that source's method and parameter
+-- 5: line j of the table is among the lines of some source i, and no row of the method table fits it
 abbrev pub BadLine : List ℕ → ℕ → Type 0
-BadLine b j =
-    (i : ℕ)
-    × (i < sourceCount b)
-    × (firstLineIn (sourceEntry b i) ≤ j)
-    × (j < firstLineIn (sourceEntry b i) + lineCountIn (sourceEntry b i))
-    × (decoded (methodIn (sourceEntry b i)) (parameterIn (sourceEntry b i)) (lineAt b j) ≡ Bad)
+BadLine b j = (i : ℕ) × (i < sourcesIn b) × (firstLine b i ≤ j) × (j < firstLine b i + lineCount b i) × NoRow (method b i) (parameter b i) (lineAt b j)
 
--- 6 and 7, of one source: its exact CO2 sum is below zero; it is not, and its equivalent is above the limit
-abbrev pub BelowZero : Source → Type 0
-BelowZero s = added carbonDioxide (decodedLines s) < taken carbonDioxide (decodedLines s)
+-- 6: the rows of a source's lines take more CO2 than they add
+abbrev pub BelowZero : ℕ → ℕ → List RawLine → Type 0
+BelowZero m p ls = (rows : List ℕ) × FitAll m p rows ls × (total adds CO2 p rows ls < total takes CO2 p rows ls)
 
-abbrev pub AboveLimit : Source → Type 0
-AboveLimit s = limit < equivalent (masses (decodedLines s))
+-- 7: the nearest whole grams of its three sums, over 10^10, 10^7 and 10^4, come to an equivalent above 10^15
+abbrev pub AboveLimit : ℕ → ℕ → List RawLine → Type 0
+AboveLimit m p ls =
+    (rows : List ℕ) × (x : ℕ) × (y : ℕ) × (z : ℕ) × FitAll m p rows ls
+    × Nearest (total adds CO2 p rows ls - total takes CO2 p rows ls) (10 ^ 10) x
+    × Nearest (total adds CH4 p rows ls) (10 ^ 7) y
+    × Nearest (total adds N2O p rows ls) (10 ^ 4) z
+    × (10 ^ 15 < x + 25 * y + 298 * z)
 
+-- of source i
 abbrev pub MassFault : List ℕ → ℕ → ℕ → Type 0
-MassFault b n i = ((n ≡ 6) × BelowZero (sourceAt b i)) ⊎ ((n ≡ 7) × (BelowZero (sourceAt b i) → ⊥) × AboveLimit (sourceAt b i))
+MassFault b n i =
+    let m = method b i in
+    let p = parameter b i in
+    let ls = linesOf b i in
+    ((n ≡ 6) × BelowZero m p ls) ⊎ ((n ≡ 7) × (BelowZero m p ls → ⊥) × AboveLimit m p ls)
 
 -- 8: the buffer has less room than a report of so many entries needs
 abbrev pub roomRow : ℕ → ℕ → Row
-roomRow entries room = at 8 (reportLength entries) (room < reportLength entries)
+roomRow entries room = at 8 (56 + 40 * entries) (room < 56 + 40 * entries)
 
 -- "Calculation tests 1, 2 by field, 3 over all sources, 4 over all, 5 over all lines, then 6 and 7 source by source in table order, then 8"
 abbrev pub calculationRows : List ℕ → ℕ → List Row
 calculationRows b room =
     registerRows b
-    ++ (atSmallest (lineCount b) (withNumber 5 (BadLine b)) ∷ atSmallest (sourceCount b) (MassFault b) ∷ roomRow (sourceCount b) room ∷ [])
+    ++ (atSmallest (linesIn b) (withNumber 5 (BadLine b)) ∷ atSmallest (sourcesIn b) (MassFault b) ∷ roomRow (sourcesIn b) room ∷ [])
 
--- 9: the bytes are those of no year and entries that make a report
+-- 9: the bytes are the report of no year and entries
 abbrev pub NoReport : List ℕ → Type 0
-NoReport b = (year : ℕ) (es : List Entry) → Reportable year es → reportBytes year es ≡ b → ⊥
+NoReport b = (year : ℕ) (es : List Entry) → IsReport b year es → ⊥
 
 -- some entry of a report has a number
 abbrev pub HasNumber : List ℕ → ℕ → Type 0
-HasNumber b x = (i : ℕ) × (i < entryCount b) × (numberAt 4 (entryAt b i) 0 ≡ x)
+HasNumber b x = (i : ℕ) × (i < entriesIn b) × (reportNumber b i ≡ x)
 
 abbrev pub InBoth : List ℕ → List ℕ → ℕ → Type 0
 InBoth one other x = HasNumber one x × HasNumber other x
@@ -95,14 +116,14 @@ combinationRows one other room =
     ∷ at 9 2 (NoReport other)
     ∷ at 10 0 (reportYear one ≢ reportYear other)
     ∷ (λ n p. (n ≡ 11) × InBoth one other p × ((x : ℕ) → x < p → InBoth one other x → ⊥))
-    ∷ at 12 (entryCount one + entryCount other) (mostSources < entryCount one + entryCount other)
-    ∷ roomRow (entryCount one + entryCount other) room
+    ∷ at 12 (entriesIn one + entriesIn other) (512 < entriesIn one + entriesIn other)
+    ∷ roomRow (entriesIn one + entriesIn other) room
     ∷ []
 
 -- "Removal: 9, 13, 8"
 abbrev pub removalRows : List ℕ → ℕ → ℕ → List Row
 removalRows report number room =
-    at 9 1 (NoReport report) ∷ at 13 number (HasNumber report number → ⊥) ∷ roomRow (entryCount report - 1) room ∷ []
+    at 9 1 (NoReport report) ∷ at 13 number (HasNumber report number → ⊥) ∷ roomRow (entriesIn report - 1) room ∷ []
 
 -- "The report check has only 9, place 1"
 abbrev pub checkRows : List ℕ → List Row

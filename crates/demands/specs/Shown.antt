@@ -10,9 +10,10 @@ use Rattle.meaning.specs.Report.{entriesOf, entryCount, reportLength, totalAt}
 use Rattle.meaning.specs.Calls.{combined, removed}
 use Rattle.meaning.specs.Starred.{line}
 use Rattle.meaning.specs.Examples.{boiler}
+use Rattle.demands.specs.Table.{Nearest}
 use Rattle.demands.specs.Valid.{Reportable, Encodable}
 use Rattle.demands.specs.Trees.{Tree, report, combine, leaves, wrote, Accepted, result, Room}
-use Rattle.demands.specs.Demand2.{Refused, Numbered, Nearest}
+use Rattle.demands.specs.Demand2.{Refused, Numbered}
 use Rattle.demands.specs.Demand3.{Lent, Dealt, calculation, GoodReport}
 use Rattle.demands.specs.Algebra.{refusal}
 

@@ -176,6 +176,22 @@ abbrev pub amount : Sign → ℕ → MethodRow → ℕ → RawLine → ℕ
 amount sign gas r parameter l =
     cond (same (r .sign) sign && eqb (r .gas) gas) (productOf (r .product) l * factorFor (r .factor) parameter l) 0
 
+-- rows of the table that fit a source's lines, one for each, and what all of them add to, or take from, the sum of a gas
+abbrev pub FitAll : ℕ → ℕ → List ℕ → List RawLine → Type 0
+FitAll method parameter [] [] = Unit {0}
+FitAll method parameter [] (l ∷ ls) = ⊥
+FitAll method parameter (i ∷ rows) [] = ⊥
+FitAll method parameter (i ∷ rows) (l ∷ ls) = FitsAt i method parameter l × FitAll method parameter rows ls
+
+abbrev pub total : Sign → ℕ → ℕ → List ℕ → List RawLine → ℕ
+total sign gas parameter [] ls = 0
+total sign gas parameter (i ∷ rows) [] = 0
+total sign gas parameter (i ∷ rows) (l ∷ ls) = amount sign gas (rowAt i) parameter l + total sign gas parameter rows ls
+
+-- "rounded once to whole grams, nearest, an exact half upward": r is the nearest whole number to n over d
+abbrev pub Nearest : ℕ → ℕ → ℕ → Type 0
+Nearest n d r = (2 * n < (2 * r + 1) * d) × (2 * r * d ≤ 2 * n + d)
+
 -- Decoding goes by the table, for every line of every method and parameter: bad exactly if no row fits; no two rows fit; a line that a row fits
 -- counts as the row says, with its sign, for its gas, and nothing for any other.
 pub record Tabled : Type 0 where
