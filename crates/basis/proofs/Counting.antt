@@ -35,6 +35,12 @@ getD-counted f d zero j i l = absurd (not-suc-le-zero l)
 getD-counted f d (suc n) j zero l = ap f (omega arith)
 getD-counted f d (suc n) j (suc i) l = getD-counted f d n (j + 1) i (le-of-suc-le-suc l) ∙ ap f (omega arith)
 
+-- within a list the default does not count
+pub getD-either : {A : Type 0} (xs : List A) (i : ℕ) (d e : A) → i < length xs → getD xs i d ≡ getD xs i e
+getD-either [] i d e l = absurd (not-suc-le-zero l)
+getD-either (x ∷ xs) zero d e l = refl
+getD-either (x ∷ xs) (suc i) d e l = getD-either xs i d e (le-of-suc-le-suc l)
+
 -- a list is made of its elements, by index
 pub counted-list : {A : Type 0} (f : ℕ → A) (d : A) (xs : List A) (j : ℕ) → ((i : ℕ) → i < length xs → f (j + i) ≡ getD xs i d) → map f (countUp j (length xs)) ≡ xs
 unfolding countUp

@@ -1,9 +1,18 @@
 -- The three demands are kept. Assumes nothing.
+use mathlib.Core.List.{List, [], _∷_}
+use mathlib.Core.Path.{_≡_, refl, sym, ap, _∙_}
+use Prim.Native.Nat.{ℕ}
+use lib.ListN.{take}
+use Rattle.basis.proofs.Counting.{getD-either}
+use Rattle.meaning.specs.Register.{sourceAt, sourcesOf}
+use Rattle.meaning.specs.Report.{Entry, reportHeader, reportBytes, reportYear, entriesOf, wellFormed}
 use Rattle.demands.specs.Demand1.{Demand1}
-use Rattle.demands.specs.Demand2.{Refusals, Encodings}
+use Rattle.demands.specs.Demand2.{Refusals, States, Encodings}
 use Rattle.demands.specs.Demands.{Demands}
-use Rattle.demands.proofs.Reports.{year-back, entries-back, report-right, report-bytes}
-use Rattle.demands.proofs.WellFormed.{formed, reportable, report-again}
+use Rattle.demands.proofs.Reports.{report-right}
+use Rattle.demands.proofs.Holds.{is-report, entries-held, written-again}
+use Rattle.demands.proofs.ReportTests.{formed-report}
+use Rattle.demands.proofs.RegisterTests.{noSource, length-sources, source-at}
 use Rattle.demands.proofs.ReportCalls.{combination-exactly, combination-answers, removal-exactly, removal-answers, check-exactly, check-answers, text-exactly, text-answers}
 use Rattle.demands.proofs.Calculated.{calculation-exactly, calculation-answers}
 use Rattle.demands.proofs.Encoded.{encode-laid, encode-year, encode-sources, encode-bytes}
@@ -37,13 +46,28 @@ refusals =
       shown = λ report buffer h. text-exactly report h buffer;
     }
 
+states : (b : List ℕ) (i : ℕ) → States b i (sourceAt b i)
+unfolding sourceAt
+states b i = record { ofNumber = refl; ofMethod = refl; ofParameter = refl; name = refl; lines = refl }
+
+-- "Every report starts with the four bytes GREP"
+begins : (year : ℕ) (es : List Entry) → take 4 (reportBytes year es) ≡ 71 ∷ 82 ∷ 69 ∷ 80 ∷ []
+unfolding reportBytes reportHeader
+begins year es = refl
+
 encodings : Encodings
 encodings =
     record {
       again = λ b h l. (laid-encodable b h l, encode-again b h l);
       back = λ year ss e. (encode-bytes year ss e, encode-laid year ss e, encode-year year ss e, encode-sources year ss e);
-      report = λ b h. (λ e. let f = formed b e in (reportable b h f, report-again b h f), λ r. rw (← (r .1)) (report-right _ _ (r .0)));
-      reportBack = λ year es v. (report-bytes year es v, report-right year es v, year-back year es v, entries-back year es v);
+      sources = λ b. (length-sources b, λ i s l. rw (getD-either (sourcesOf b) i s noSource (rw (length-sources b) l), source-at b i l) (states b i));
+      formed = λ b h. (
+        λ e. (reportYear b, entriesOf b, formed-report b h e),
+        λ r. ap wellFormed (sym (written-again b (r .0) (r .1) (r .2))) ∙ report-right (r .0) (r .1) (r .2 .makes),
+      );
+      report = λ b year es r. (written-again b year es r, entries-held b year es r);
+      reportBack = is-report;
+      begins = begins;
     }
 
 pub kept : Demands

@@ -104,7 +104,10 @@ module _ (b : List ℕ) (e : accepted b ≡ true) where
 
   is-name : (i : ℕ) → i < sourceCount b → IsName b i (nameAt b i)
   unfolding nameAt sourceAt
-  is-name i l = let r = name-range i l in (refl, refl, r .0, r .1)
+  is-name i l =
+      let r = name-range i l in
+      let p = standing b (passed-it .laid) i l in
+      (refl, refl, r .0, r .1, omega (arith, p .names, passed-it .laid .filled))
 
 -- one register: by whether it is accepted and holds the number
 data Case (b : List ℕ) (x : ℕ) : Type 0 where

@@ -56,7 +56,7 @@ neutral b buffer g o =
     )
 
 -- the entries but one, with that one, are the entries
-without-perm : (e : Entry) (es : List Entry) → Distinct entryNumber es → (i : ℕ) → i < length es → getD es i e ≡ e → List·Permᴰ (e ∷ without (numbered (e .number)) es) es
+pub without-perm : (e : Entry) (es : List Entry) → Distinct entryNumber es → (i : ℕ) → i < length es → getD es i e ≡ e → List·Permᴰ (e ∷ without (numbered (e .number)) es) es
 unfolding without
 without-perm e [] d i l q = absurd (not-suc-le-zero l)
 without-perm e (f ∷ fs) d zero l q =

@@ -5,13 +5,14 @@
 use mathlib.Core.Bool.{true}
 use mathlib.Core.List.{List, [], _∷_, map, Perm}
 use mathlib.Core.Path.{_≡_}
-use Prim.Native.Nat.{ℕ, _-_, _≤_, _<_}
+use Prim.Native.Nat.{ℕ, _+_, _*_, _-_, _≤_, _<_}
 use lib.ListN.{length, getD}
 use Rattle.basis.specs.Bytes.{Bytes}
 use Rattle.basis.specs.Lists.{Each, joined}
 use Rattle.basis.specs.Answers.{Outcome}
-use Rattle.meaning.specs.Register.{Source, yearOf, sourceCount, sourcesOf, encode}
-use Rattle.meaning.specs.Report.{Entry, reportBytes, reportLength, reportYear, entryCount, entriesOf, wellFormed}
+use Rattle.meaning.specs.Register.{Source, sourcesOf, encode}
+use Rattle.demands.specs.Fields.{yearIn, sourcesIn, reportYear, entriesIn}
+use Rattle.meaning.specs.Report.{Entry, reportBytes, entriesOf, wellFormed}
 use Rattle.meaning.specs.Calls.{calculated, combined, removed}
 use Rattle.demands.specs.Valid.{LaidRight}
 use Rattle.demands.specs.Trees.{Tree, leaves, wrote, Accepted, result, EachAccepted, Room}
@@ -25,8 +26,8 @@ pub record Lent : Type 0 where
 pub record Dealt (year : ℕ) (p : Lent) : Type 0 where
   pub bytes : Bytes (p .register)
   pub laid : LaidRight (p .register)
-  pub sameYear : yearOf (p .register) ≡ year
-  pub room : reportLength (sourceCount (p .register)) ≤ length (p .buffer)
+  pub sameYear : yearIn (p .register) ≡ year
+  pub room : 56 + 40 * sourcesIn (p .register) ≤ length (p .buffer)
 
 abbrev pub calculation : Lent → Outcome
 calculation p = calculated (p .register) (p .buffer)
@@ -38,12 +39,12 @@ Dealing =
     (whole : Lent) (parts : List Lent)
     → Bytes (whole .register)
     → Accepted (calculation whole)
-    → Each (Dealt (yearOf (whole .register))) parts
+    → Each (Dealt (yearIn (whole .register))) parts
     → Perm (joined (map (λ p. sourcesOf (p .register)) parts)) (sourcesOf (whole .register))
     → Each (λ p. Accepted (calculation p)) parts
     × ((t : Tree)
     → Perm (leaves t) (map (λ p. wrote (calculation p)) parts)
-    → Room entryCount reportLength t
+    → Room entriesIn (λ n. 56 + 40 * n) t
     → EachAccepted combined t × (result combined t ≡ wrote (calculation whole)))
 
 -- For every way to deal the sources of an accepted register out there are such registers.
@@ -53,7 +54,7 @@ EveryDealing =
     → Bytes (whole .register)
     → Accepted (calculation whole)
     → Perm (joined deals) (sourcesOf (whole .register))
-    → Each (λ ss. let r = encode (yearOf (whole .register)) ss in Bytes r × LaidRight r × (yearOf r ≡ yearOf (whole .register)) × (sourcesOf r ≡ ss)) deals
+    → Each (λ ss. let r = encode (yearIn (whole .register)) ss in Bytes r × LaidRight r × (yearIn r ≡ yearIn (whole .register)) × (sourcesOf r ≡ ss)) deals
 
 -- a well-formed report of bytes
 pub record GoodReport (b : List ℕ) : Type 0 where
@@ -75,9 +76,9 @@ abbrev pub Again : Type 0
 Again =
     (b result buffer : List ℕ) (i : ℕ) (e : Entry)
     → GoodReport b
-    → i < entryCount b
+    → i < entriesIn b
     → getD (entriesOf b) i e ≡ e
-    → reportLength (entryCount b - 1) ≤ length result
+    → 56 + 40 * (entriesIn b - 1) ≤ length result
     → length b ≤ length buffer
     → Accepted (removed b (e .number) result)
     × CombinesTo (wrote (removed b (e .number) result)) (reportBytes (reportYear b) (e ∷ [])) buffer b
@@ -89,12 +90,12 @@ SourceAgain =
     (whole alone : Lent) (s : Source) (i : ℕ) (result buffer : List ℕ)
     → Bytes (whole .register)
     → Accepted (calculation whole)
-    → i < sourceCount (whole .register)
+    → i < sourcesIn (whole .register)
     → getD (sourcesOf (whole .register)) i s ≡ s
-    → Dealt (yearOf (whole .register)) alone
+    → Dealt (yearIn (whole .register)) alone
     → sourcesOf (alone .register) ≡ s ∷ []
-    → reportLength (sourceCount (whole .register) - 1) ≤ length result
-    → reportLength (sourceCount (whole .register)) ≤ length buffer
+    → 56 + 40 * (sourcesIn (whole .register) - 1) ≤ length result
+    → 56 + 40 * sourcesIn (whole .register) ≤ length buffer
     → Accepted (removed (wrote (calculation whole)) (s .number) result)
     × Accepted (calculation alone)
     × CombinesTo (wrote (removed (wrote (calculation whole)) (s .number) result)) (wrote (calculation alone)) buffer (wrote (calculation whole))
