@@ -53,7 +53,7 @@ pub enough-room : (made buffer : List ℕ) → length made ≤ length buffer →
 enough-room made buffer l = if-passed (ltb (length buffer) (length made)) 8 (length made) (le-ltb (length buffer) (length made) l)
 
 module _ (y : ℕ) (xs zs : List Entry) (v : Reportable y xs) (w : Reportable y zs) where
-  apart-nowhere : Each (λ x. Each (λ z. entryNumber x ≢ entryNumber z) zs) xs → (p : ℕ) → InBoth (reportBytes y xs) (reportBytes y zs) p → ⊥
+  pub apart-nowhere : Each (λ x. Each (λ z. entryNumber x ≢ entryNumber z) zs) xs → (p : ℕ) → InBoth (reportBytes y xs) (reportBytes y zs) p → ⊥
   apart-nowhere a p r =
       let f = any-some (numbered p) noEntry xs (rw (entries-back y xs v) at (has (reportBytes y xs) (report-bytes y xs v) (report-right y xs v) p (r .0))) in
       let g = any-some (numbered p) noEntry zs (rw (entries-back y zs w) at (has (reportBytes y zs) (report-bytes y zs w) (report-right y zs w) p (r .1))) in

@@ -8,6 +8,7 @@ use native.Mathlib.Omega.{arith}
 use lib.Dec.{ltb}
 use lib.ListN.{length}
 use borrow.Author.Tests.{ltb-true, ltb-false, lt-ltb}
+use Rattle.basis.specs.Bytes.{splice}
 use Rattle.basis.specs.Lists.{Each}
 use Rattle.basis.specs.declared.Answer.{Answer}
 use Rattle.basis.specs.declared.Verdict.{Verdict}
@@ -171,6 +172,17 @@ answers tests ns rows made buffer d z =
           held = λ _. refl;
           sized = refl;
         }
+
+-- what is left in the buffer of an accepted call, and the length that it answers
+pub left-written : (tests : List Verdict) (made buffer : List ℕ) → firstRefusal (tests ++ (roomTest made buffer ∷ [])) ≡ Passes
+    → written tests made buffer .left ≡ splice buffer 0 made
+unfolding written settled
+left-written tests made buffer e = ap (λ (v : Verdict). settled v made buffer .left) e
+
+pub length-written : (tests : List Verdict) (made buffer : List ℕ) → firstRefusal (tests ++ (roomTest made buffer ∷ [])) ≡ Passes
+    → written tests made buffer .answer .length ≡ length made
+unfolding written settled
+length-written tests made buffer e = ap (λ (v : Verdict). settled v made buffer .answer .length) e
 
 -- 8
 pub room-decides : (made buffer : List ℕ) (n : ℕ) → length made ≡ n → Decides (roomTest made buffer) (at 8 n (length buffer < n))

@@ -20,20 +20,20 @@ use Rattle.demands.proofs.Reports.{equivalent-within, prior, ascending-
 use Rattle.demands.proofs.WellFormed.{Headed, RightEntry, Formed, report-again}
 
 -- the figures of an entry of three masses
-figure-mass : (k : ℕ) → k < 3 → (e : Entry) → Entered e → figure k e ≡ massOf k e
+pub figure-mass : (k : ℕ) → k < 3 → (e : Entry) → Entered e → figure k e ≡ massOf k e
 unfolding figure figures
 figure-mass k l e v = List·getD-append (e .masses) (equivalent (e .masses) ∷ []) 0 k (omega (arith, v .gases))
 
-figure-last : (e : Entry) → Entered e → figure 3 e ≡ equivalentOf e
+pub figure-last : (e : Entry) → Entered e → figure 3 e ≡ equivalentOf e
 unfolding figure figures
 figure-last e v = (rw (v .gases) at (getD-append-seam (e .masses) (equivalent (e .masses)) [] 0)) ∙ equivalent-is e (v .gases)
 
-sum-same : {A : Type 0} (P : A → Type 0) (f g : A → ℕ) → ((x : A) → P x → f x ≡ g x) → (xs : List A) → Each P xs → sum (map f xs) ≡ sum (map g xs)
+pub sum-same : {A : Type 0} (P : A → Type 0) (f g : A → ℕ) → ((x : A) → P x → f x ≡ g x) → (xs : List A) → Each P xs → sum (map f xs) ≡ sum (map g xs)
 unfolding sum
 sum-same P f g h [] p = refl
 sum-same P f g h (x ∷ xs) p = ap₂ _+_ (h x (p .0)) (sum-same P f g h xs (p .1))
 
-three-masses : (ms : List ℕ) → length ms ≡ 3 → (getD ms 0 0 ∷ getD ms 1 0 ∷ getD ms 2 0 ∷ []) ≡ ms
+pub three-masses : (ms : List ℕ) → length ms ≡ 3 → (getD ms 0 0 ∷ getD ms 1 0 ∷ getD ms 2 0 ∷ []) ≡ ms
 three-masses [] e = absurd (omega arith)
 three-masses (x ∷ []) e = absurd (omega arith)
 three-masses (x ∷ y ∷ []) e = absurd (omega arith)

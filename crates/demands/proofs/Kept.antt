@@ -14,6 +14,9 @@ use Rattle.demands.proofs.Holds.{is-report, entries-held, written-again
 use Rattle.demands.proofs.ReportTests.{formed-report}
 use Rattle.demands.proofs.RegisterTests.{noSource, length-sources, source-at}
 use Rattle.demands.proofs.ReportCalls.{combination-exactly, combination-answers, removal-exactly, removal-answers, check-exactly, check-answers, text-exactly, text-answers}
+use Rattle.meaning.proofs.Computed.{starred, examples}
+use Rattle.demands.proofs.Tabled.{tabled}
+use Rattle.demands.proofs.Texts.{texts}
 use Rattle.demands.proofs.Calculated.{calculation-exactly, calculation-answers}
 use Rattle.demands.proofs.Encoded.{encode-laid, encode-year, encode-sources, encode-bytes}
 use Rattle.demands.proofs.Laid.{encode-again, laid-encodable}
@@ -73,17 +76,21 @@ encodings =
 pub kept : Demands
 kept =
     record {
+      tabled = tabled;
       answers = answers;
       refusals = refusals;
       masses = masses-kept;
       fixed = fixed;
       encodings = encodings;
       names = names-kept;
+      texts = texts;
       dealing = dealing;
       everyDealing = every-dealing;
       neutral = neutral;
       again = again-report;
       sourceAgain = source-again;
       algebra = algebra;
+      starred = starred;
+      examples = examples;
       shown = shown;
     }

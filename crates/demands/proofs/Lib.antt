@@ -5,6 +5,7 @@ pub mod Tabled
 pub mod Figures
 pub mod Sums
 pub mod WrongSource
+pub mod Decimals
 pub mod Order
 pub mod Exactly
 pub mod Reports
@@ -25,8 +26,10 @@ pub mod Dealing
 pub mod EveryDealing
 pub mod Removal
 pub mod SourceAgain
+pub mod Texts
 pub mod Masses
 pub mod Names
 pub mod Algebra
+pub mod TooMany
 pub mod Shown
 pub mod Kept

@@ -1,17 +1,14 @@
 -- The masses of an accepted register, what its report holds, and what combination and removal leave. Assumes nothing.
 use mathlib.Core.Bool.{Bool, true, false, cond, not}
-use mathlib.Core.List.{List, [], _∷_, _++_, map, map-map, Perm}
+use mathlib.Core.List.{List, _∷_, map, map-map, Perm}
 use mathlib.Core.Path.{_≡_, refl, sym, ap, _∙_}
 use Prim.Native.Nat.{ℕ, zero, suc, _<_, _≤_, _^_}
 use native.Mathlib.Omega.{arith}
 use lib.Dec.{ltb}
 use lib.ListN.{length, getD}
 use borrow.Author.Tests.{ltb-false, eqb-true, not-false}
-use Rattle.basis.specs.Bytes.{splice}
+use Rattle.basis.specs.Bytes.{numberAt}
 use Rattle.basis.specs.Lists.{sum, countUp, any, without}
-use Rattle.basis.specs.declared.Verdict.{Verdict}
-use Rattle.basis.specs.declared.Verdict.the-variants.{Passes}
-use Rattle.basis.specs.Answers.{firstRefusal, settled}
 use Rattle.basis.proofs.Answers.{coincide, coincide-part, each-passes, passed-if}
 use Rattle.basis.proofs.Lists.{sortedBy-perm, each-map}
 use Rattle.basis.proofs.Counting.{any-some, getD-either}
@@ -20,12 +17,13 @@ use Rattle.meaning.specs.Masses.{added, taken, belowZero, masses, equivalent, l
 use Rattle.meaning.specs.Register.{Source, yearOf, sourcesOf, decodedLines}
 use Rattle.meaning.specs.Report.{Entry, entryOf, inOrder, reportBytes, reportYear, entriesOf}
 use Rattle.meaning.specs.Methods.{decoded}
-use Rattle.meaning.specs.Calls.{roomTest, written, massFault, entriesFor, bothEntries, numbered, calculated, combined, removed, combinationTests, combinedReport, removalTests, removedReport, calculationTests, calculatedReport}
+use Rattle.meaning.specs.Calls.{massFault, entriesFor, bothEntries, numbered, calculated, combined, removed, combinationTests, combinedReport, removalTests, removedReport, calculationTests, calculatedReport}
 use Rattle.meaning.proofs.Laws.{one-entry-each, entries-of-both}
 use Rattle.demands.specs.Table.{adds, takes, total}
 use Rattle.demands.specs.Valid.{entryNumber, noEntry, Reportable, IsReport}
 use Rattle.demands.specs.Demand2.{Defined, Reports, Masses, Fixed}
 use Rattle.demands.proofs.Order.{ascending-distinct}
+use Rattle.demands.proofs.Exactly.{left-written}
 use Rattle.demands.proofs.Sums.{rounds, total-added, total-taken, rows-found, none-taken, co2-nearest, ch4-nearest, n2o-nearest}
 use Rattle.demands.proofs.Holds.{is-report}
 use Rattle.demands.proofs.RegisterTests.{length-sources}
@@ -76,14 +74,8 @@ defined s c =
         let f = rows-found (s .method) (s .parameter) (s .lines) (c .good) .1 in
         rw (none-taken (s .method) (s .parameter) (suc gas) rows (s .lines) (omega arith) f) (omega arith)
 
--- what is left in the buffer of an accepted call
-left-written : (tests : List Verdict) (made buffer : List ℕ) → firstRefusal (tests ++ (roomTest made buffer ∷ [])) ≡ Passes
-    → written tests made buffer .left ≡ splice buffer 0 made
-unfolding written settled
-left-written tests made buffer e = ap (λ (v : Verdict). settled v made buffer .left) e
-
 -- a number that is read of eight bytes is below 2^64
-read-fits : {b : List ℕ} {year : ℕ} {es : List Entry} (r : IsReport b year es) (at n : ℕ) → Rattle.basis.specs.Bytes.numberAt 8 b at ≡ n → n < 2 ^ 64
+read-fits : {b : List ℕ} {year : ℕ} {es : List Entry} (r : IsReport b year es) (at n : ℕ) → numberAt 8 b at ≡ n → n < 2 ^ 64
 read-fits {b} r at n e = rw (← e) (numberAt-fits 8 b at (r .bytes))
 
 reports : (register : List ℕ) → Reportable (yearOf register) (entriesFor (sourcesOf register))

@@ -255,3 +255,7 @@ module _ (report : List ℕ) (h : Bytes report) where
   unfolding text
   text-answers buffer =
       answers (formTest report 1 ∷ []) (8 ∷ 9 ∷ []) (textRows report (length buffer)) shown buffer (text-decides buffer) (numbered-8-9 buffer)
+
+  pub text-passed : (buffer : List ℕ) → text report buffer .answer .number ≡ 0 → firstRefusal (formTest report 1 ∷ roomTest shown buffer ∷ []) ≡ Passes
+  unfolding text
+  text-passed buffer e = zero-passes (formTest report 1 ∷ []) (8 ∷ 9 ∷ []) (textRows report (length buffer)) shown buffer (text-decides buffer) (numbered-8-9 buffer) e

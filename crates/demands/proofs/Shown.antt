@@ -13,12 +13,15 @@ use Rattle.basis.specs.declared.Verdict.the-variants.{Passes}
 use Rattle.basis.specs.Answers.{firstRefusal}
 use Rattle.basis.proofs.Bools.{or-false}
 use Rattle.meaning.specs.Register.{Source, yearOf, sourceCount, registerTests, encode}
-use Rattle.meaning.specs.Report.{reportLength}
+use Rattle.meaning.specs.Report.{reportBytes, reportLength}
+use Rattle.meaning.specs.Calls.{combined}
 use Rattle.meaning.specs.Examples.{boiler}
 use Rattle.meaning.proofs.Opened.{opened}
 use Rattle.demands.specs.Trees.{wrote}
 use Rattle.demands.specs.Demand3.{Dealt, calculation}
-use Rattle.demands.specs.Shown.{Shown, acid, zeros, lent, whole}
+use Rattle.demands.specs.Shown.{Shown, acid, many, zeros, lent, whole}
+use Rattle.demands.specs.Algebra.{refusal}
+use Rattle.demands.proofs.TooMany.{too-many, length-many, many-make, many-apart}
 use Rattle.demands.proofs.Registers.{passed}
 use Rattle.demands.proofs.WellFormed.{formed, reportable}
 use Rattle.demands.proofs.Laid.{laid-encodable}
@@ -35,6 +38,14 @@ all-bytes (b ∷ bs) e (suc i) = all-bytes bs (or-false (leb 256 b) (any (leb 25
 deal : (ss : List Source) → any (leb 256) (encode 2023 ss) ≡ false → firstRefusal (registerTests (encode 2023 ss)) ≡ Passes → yearOf (encode 2023 ss) ≡ 2023
     → reportLength (sourceCount (encode 2023 ss)) ≤ length zeros → Dealt 2023 (lent ss)
 deal ss b e y r = record { bytes = all-bytes (encode 2023 ss) b; laid = passed (encode 2023 ss) e .laid; sameYear = y; room = r }
+
+too-many-numbers : combined (reportBytes 2023 (many 1 256)) (reportBytes 2023 (many 257 257)) [] .answer ≡ refusal 12 513
+too-many-numbers =
+    let one = length-many 1 256 in
+    let other = length-many 257 257 in
+    rw (one, other) at
+    (too-many 2023 (many 1 256) (many 257 257) (many-make 1 256 (omega arith) (omega arith) (omega arith)) (many-make 257 257 (omega arith) (omega arith) (omega arith)) (many-apart 1 256 257)
+    (omega arith) [])
 
 pub shown : Shown
 unfolding opened
@@ -66,4 +77,9 @@ shown =
       otherOrder = refl;
       firstGrouping = refl;
       otherGrouping = refl;
+      tooMany = too-many-numbers;
+      manyMake = (many-make 1 256 (omega arith) (omega arith) (omega arith), many-make 257 257 (omega arith) (omega arith) (omega arith));
+      ofPlant = refl;
+      ofContractor = refl;
+      zero = refl;
     }

@@ -1,4 +1,8 @@
 -- The three demands, each statement a field. A statement outside this record does not count. Assumes nothing.
+use Rattle.meaning.specs.Starred.{Starred}
+use Rattle.meaning.specs.Examples.{Examples}
+use Rattle.demands.specs.Table.{Tabled}
+use Rattle.demands.specs.Text.{Texts}
 use Rattle.demands.specs.Demand1.{Demand1}
 use Rattle.demands.specs.Demand2.{Refusals, Masses, Fixed, Encodings, Names}
 use Rattle.demands.specs.Demand3.{Dealing, EveryDealing, Neutral, Again, SourceAgain}
@@ -6,6 +10,8 @@ use Rattle.demands.specs.Algebra.{Algebra}
 use Rattle.demands.specs.Shown.{Shown}
 
 pub record Demands : Type 1 where
+  -- the method table
+  pub tabled : Tabled
   -- 1
   pub answers : Demand1
   -- 2
@@ -14,6 +20,7 @@ pub record Demands : Type 1 where
   pub fixed : Fixed
   pub encodings : Encodings
   pub names : Names
+  pub texts : Texts
   -- 3
   pub dealing : Dealing
   pub everyDealing : EveryDealing
@@ -22,5 +29,8 @@ pub record Demands : Type 1 where
   pub sourceAgain : SourceAgain
   -- what order and grouping do to a combination
   pub algebra : Algebra
+  -- document 01's sums done by hand, and cases for each row and each refusal
+  pub starred : Starred
+  pub examples : Examples
   -- none of these holds for want of a case
   pub shown : Shown

@@ -4,6 +4,7 @@ pub mod Valid
 pub mod Exactly
 pub mod Refusals
 pub mod Trees
+pub mod Text
 pub mod Demand1
 pub mod Demand2
 pub mod Demand3

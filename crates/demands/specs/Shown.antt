@@ -1,16 +1,17 @@
 -- The premises of the statements, all met: two boilers of equal name and lines, and an acid plant. Assumes nothing.
 use mathlib.Core.List.{List, [], _∷_, map, Perm}
 use mathlib.Core.Path.{_≡_}
-use Prim.Native.Nat.{ℕ}
+use Prim.Native.Nat.{ℕ, _+_, _*_}
 use lib.ListN.{replicate}
-use Rattle.basis.specs.Bytes.{Bytes, ascii}
-use Rattle.basis.specs.Lists.{Each, joined}
+use Rattle.basis.specs.Bytes.{numberAt, Bytes, ascii}
+use Rattle.basis.specs.Lists.{Each, countUp, joined}
 use Rattle.meaning.specs.Register.{Source, sourcesOf, encode}
-use Rattle.meaning.specs.Report.{entriesOf, entryCount, reportLength, totalAt}
-use Rattle.meaning.specs.Calls.{combined, removed}
+use Rattle.meaning.specs.Report.{Entry, reportBytes, entriesOf}
+use Rattle.meaning.specs.Calls.{combined, removed, foundOfTwo}
 use Rattle.meaning.specs.Starred.{line}
 use Rattle.meaning.specs.Examples.{boiler}
 use Rattle.demands.specs.Table.{Nearest}
+use Rattle.demands.specs.Fields.{entriesIn}
 use Rattle.demands.specs.Valid.{Reportable, Encodable}
 use Rattle.demands.specs.Trees.{Tree, report, combine, leaves, wrote, Accepted, result, Room}
 use Rattle.demands.specs.Demand2.{Refused, Numbered}
@@ -19,6 +20,14 @@ use Rattle.demands.specs.Algebra.{refusal}
 
 abbrev pub acid : Source
 acid = record { number = 9; method = 6; parameter = 5; name = ascii "Acid"; lines = line 30 1 0 1000000 0 0 ∷ line 30 1 0 500 0 0 ∷ [] }
+
+-- a boiler that burnt nothing
+abbrev pub idle : Source
+idle = record { number = 1; method = 1; parameter = 0; name = ascii "Idle"; lines = line 1 1 3 0 0 0 ∷ [] }
+
+-- entries with so many numbers from one on, and no masses
+abbrev pub many : ℕ → ℕ → List Entry
+many from count = map (λ n. record { number = n; method = 1; masses = 0 ∷ 0 ∷ 0 ∷ [] }) (countUp from count)
 
 abbrev pub zeros : List ℕ
 zeros = replicate 180 0
@@ -50,12 +59,12 @@ pub record Shown : Type 0 where
   pub dealt : Each (Dealt 2023) parts
   pub sources : Perm (joined (map (λ p. sourcesOf (p .register)) parts)) (sourcesOf (whole .register))
   pub reports : Perm (leaves tree) (map (λ p. wrote (calculation p)) parts)
-  pub room : Room entryCount reportLength tree
+  pub room : Room entriesIn (λ n. 56 + 40 * n) tree
   pub combines : result combined tree ≡ wrote (calculation whole)
   -- its report is well-formed, has three entries, and both boilers count in its first total
   pub formed : GoodReport (wrote (calculation whole))
-  pub entries : entryCount (wrote (calculation whole)) ≡ 3
-  pub twice : totalAt (wrote (calculation whole)) 0 ≡ 5862400000
+  pub entries : entriesIn (wrote (calculation whole)) ≡ 3
+  pub twice : numberAt 8 (wrote (calculation whole)) 24 ≡ 5862400000
   -- a year and sources that a register has room for; a year and entries that make a report; a register that 1 to 4 do not refuse
   pub encodable : Encodable 2023 (boiler 8 ∷ boiler 7 ∷ acid ∷ [])
   pub reportable : Reportable 2023 (entriesOf (wrote (calculation whole)))
@@ -73,3 +82,11 @@ pub record Shown : Type 0 where
   pub otherOrder : combined (written []) [] zeros .answer ≡ refusal 9 2
   pub firstGrouping : combined (wrote (combined (written (boiler 7 ∷ [])) (written (boiler 8 ∷ [])) zeros)) (written (boiler 7 ∷ boiler 8 ∷ [])) zeros .answer ≡ refusal 11 7
   pub otherGrouping : combined (written (boiler 8 ∷ [])) (written (boiler 7 ∷ boiler 8 ∷ [])) zeros .answer ≡ refusal 11 8
+  -- 256 and 257 entries are too many, and 12 has their count
+  pub tooMany : combined (reportBytes 2023 (many 1 256)) (reportBytes 2023 (many 257 257)) [] .answer ≡ refusal 12 513
+  pub manyMake : Reportable 2023 (many 1 256) × Reportable 2023 (many 257 257)
+  -- a name of the plant's register, and one of its contractor's
+  pub ofPlant : foundOfTwo (whole .register) (lent (boiler 3 ∷ []) .register) 7 ≡ record { which = 1; offset = 172; length = 12 }
+  pub ofContractor : foundOfTwo (whole .register) (lent (boiler 3 ∷ []) .register) 3 ≡ record { which = 2; offset = 68; length = 12 }
+  -- "Zero is an ordinary value for Q, A and B"
+  pub zero : Accepted (calculation (lent (idle ∷ [])))
