@@ -14,7 +14,7 @@ use Rattle.demands.proofs.Holds.{is-report, entries-held, written-again
 use Rattle.demands.proofs.ReportTests.{formed-report}
 use Rattle.demands.proofs.RegisterTests.{noSource, length-sources, source-at}
 use Rattle.demands.proofs.ReportCalls.{combination-exactly, combination-answers, removal-exactly, removal-answers, check-exactly, check-answers, text-exactly, text-answers}
-use Rattle.meaning.proofs.Computed.{starred, examples}
+use Rattle.meaning.proofs.Computed.{starred, kinds, examples, byHand}
 use Rattle.demands.proofs.Tabled.{tabled}
 use Rattle.demands.proofs.Texts.{texts}
 use Rattle.demands.proofs.Calculated.{calculation-exactly, calculation-answers}
@@ -91,6 +91,8 @@ kept =
       sourceAgain = source-again;
       algebra = algebra;
       starred = starred;
+      kinds = kinds;
       examples = examples;
+      byHand = byHand;
       shown = shown;
     }

@@ -34,7 +34,6 @@ rounds n d r h = (
   λ w. div-eq-of-lt-le (2 * d) (omega arith) (omega arith),
 )
 
-
 module _ (m p : ℕ) where
   pub total-added : (gas : ℕ) (rows : List ℕ) (ls : List RawLine) → FitAll m p rows ls → total adds gas p rows ls ≡ added gas (map (decoded m p) ls)
   unfolding added sum

@@ -19,7 +19,7 @@ use Rattle.meaning.specs.Report.{Entry, figures, figureCount, totals, reportTag
 use Rattle.demands.specs.Valid.{Entered, noEntry, Reportable}
 use Rattle.basis.proofs.Counting.{counted-none, getD-counted, counted-list}
 use Rattle.demands.proofs.Figures.{equivalent-is}
-use Rattle.demands.proofs.Reports.{ prior, at-ascending, headerWidths, headerNumbers, length-totals}
+use Rattle.demands.proofs.Reports.{prior, at-ascending, headerWidths, headerNumbers, length-totals}
 use Rattle.basis.proofs.Rows.{starts-tag, numberAt-drop, numberAt-fits, unpacked, unpacked-same, packed-unpacked, bytes-drop, write-rows}
 
 -- what a right header says

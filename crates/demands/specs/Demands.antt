@@ -1,6 +1,8 @@
 -- The three demands, each statement a field. A statement outside this record does not count. Assumes nothing.
 use Rattle.meaning.specs.Starred.{Starred}
+use Rattle.meaning.specs.Kinds.{Kinds}
 use Rattle.meaning.specs.Examples.{Examples}
+use Rattle.meaning.specs.ByHand.{ByHand}
 use Rattle.demands.specs.Table.{Tabled}
 use Rattle.demands.specs.Text.{Texts}
 use Rattle.demands.specs.Demand1.{Demand1}
@@ -29,8 +31,10 @@ pub record Demands : Type 1 where
   pub sourceAgain : SourceAgain
   -- what order and grouping do to a combination
   pub algebra : Algebra
-  -- document 01's sums done by hand, and cases for each row and each refusal
+  -- document 01's sums done by hand; a case for each kind and each range; each refusal; a register and a report byte by byte
   pub starred : Starred
+  pub kinds : Kinds
   pub examples : Examples
+  pub byHand : ByHand
   -- none of these holds for want of a case
   pub shown : Shown

@@ -1,7 +1,9 @@
 -- The starred sums, and the cases beside them, computed. Assumes nothing.
 use mathlib.Core.Path.{refl}
 use Rattle.meaning.specs.Starred.{Starred, resultOf, calculates}
-use Rattle.meaning.specs.Examples.{Examples, twins, made, reportOfSources, damaged, combining, removing}
+use Rattle.meaning.specs.Examples.{Examples, twins, made, reportOfSources, damaged, named, combining, removing}
+use Rattle.meaning.specs.Kinds.{Kinds}
+use Rattle.meaning.specs.ByHand.{ByHand}
 use Rattle.meaning.proofs.Opened.{opened}
 
 pub starred : Starred
@@ -9,6 +11,14 @@ unfolding opened resultOf calculates
 starred = record { each = refl }
 
 pub examples : Examples
-unfolding opened resultOf calculates twins made reportOfSources damaged combining removing
+unfolding opened resultOf calculates twins made reportOfSources damaged named combining removing
 examples =
-    record { once = refl; dust = refl; shown = refl; refused = refl; together = refl; apart = refl; name = refl; nameless = refl; names = refl; inBoth = refl }
+    record { within = refl; once = refl; dust = refl; shown = refl; refused = refl; together = refl; apart = refl; name = refl; nameless = refl; names = refl; inBoth = refl }
+
+pub kinds : Kinds
+unfolding opened resultOf calculates
+kinds = record { each = refl }
+
+pub byHand : ByHand
+unfolding opened
+byHand = record { sources = refl; register = refl; report = refl; entries = refl; written = refl; text = refl }

@@ -38,6 +38,14 @@ row answer number place = record { answer = answer; number = number; place = pla
 unfoldable pub damaged : ℕ → List ℕ → Answer
 damaged at bytes = calculated (splice twins at bytes) (replicate 136 0) .answer
 
+-- calculation of a boiler with this name
+unfoldable pub named : List ℕ → Answer
+named name = calculated (encode 2023 (record { number = 7; method = 1; parameter = 0; name = name; lines = boiler 7 .lines } ∷ [])) (replicate 96 0) .answer
+
+-- a boiler with two lines
+abbrev pub pair : Source
+pair = record { number = 7; method = 1; parameter = 0; name = ascii "K"; lines = line 1 1 3 1 1 1 ∷ line 1 1 3 1 1 1 ∷ [] }
+
 unfoldable pub combining : List ℕ → List ℕ → ℕ → Answer
 combining one other room = combined one other (replicate room 0) .answer
 
@@ -60,16 +68,31 @@ rows =
     ∷ row (damaged 10 (3 ∷ [])) 2 24
     ∷ row (damaged 12 (25 ∷ [])) 2 28
     ∷ row (damaged 128 (0 ∷ [])) 2 28
-    -- number zero; method 4 with parameter 0; no line; a first line that is not the next
+    ∷ row (damaged 6 (bytesOf 2 2101)) 2 6
+    -- number zero; pairs that are not listed; no line; a first line that is not the next; lines that run past
     ∷ row (damaged 48 (0 ∷ [])) 3 1
-    ∷ row (damaged 36 (4 ∷ [])) 3 0
+    ∷ row (damaged 36 (0 ∷ 0 ∷ [])) 3 0
+    ∷ row (damaged 36 (1 ∷ 1 ∷ [])) 3 0
+    ∷ row (damaged 36 (2 ∷ 1 ∷ [])) 3 0
+    ∷ row (damaged 36 (3 ∷ 6 ∷ [])) 3 0
+    ∷ row (damaged 36 (4 ∷ 0 ∷ [])) 3 0
+    ∷ row (damaged 36 (4 ∷ 7 ∷ [])) 3 0
+    ∷ row (damaged 36 (5 ∷ 1 ∷ [])) 3 0
+    ∷ row (damaged 36 (6 ∷ 0 ∷ [])) 3 0
+    ∷ row (damaged 36 (6 ∷ 7 ∷ [])) 3 0
+    ∷ row (damaged 36 (7 ∷ 0 ∷ [])) 3 0
     ∷ row (damaged 38 (0 ∷ [])) 3 0
     ∷ row (damaged 56 (2 ∷ [])) 3 1
-    -- no name; a name that runs past; a bad name byte; a name byte left over
+    ∷ row (damaged 54 (2 ∷ [])) 3 1
+    -- no name; a name that is too long; one that begins elsewhere, one that runs past; bad name bytes; a name byte left over, a line left over
     ∷ row (damaged 42 (0 ∷ [])) 3 0
+    ∷ row (named (replicate 65 65)) 3 0
+    ∷ row (damaged 60 (11 ∷ [])) 3 1
     ∷ row (damaged 58 (13 ∷ [])) 3 1
+    ∷ row (damaged 120 (31 ∷ [])) 3 1
     ∷ row (damaged 120 (127 ∷ [])) 3 1
     ∷ row (damaged 58 (11 ∷ [])) 3 2
+    ∷ row (calculated (splice (encode 2023 (pair ∷ [])) 38 (1 ∷ [])) [] .answer) 3 1
     -- equal numbers; a unit that is none; a buffer that is a byte short
     ∷ row (damaged 48 (8 ∷ [])) 4 1
     ∷ row (damaged 85 (5 ∷ [])) 5 1
@@ -86,7 +109,20 @@ rows =
     ∷ row (removing 7 95) 8 96
     ∷ []
 
+-- what is still allowed: the shortest and the longest name, name bytes at the ends of what they may be, the first and the last year
+abbrev pub allowed : List Answer
+allowed =
+    named (32 ∷ [])
+    ∷ named (126 ∷ [])
+    ∷ named (128 ∷ [])
+    ∷ named (255 ∷ [])
+    ∷ named (replicate 64 65)
+    ∷ calculated (encode 1990 (pair ∷ [])) (replicate 96 0) .answer
+    ∷ calculated (encode 2100 (pair ∷ [])) (replicate 96 0) .answer
+    ∷ []
+
 pub record Examples : Type 0 where
+  pub within : allowed ≡ replicate 7 (record { number = 0; place = 0; length = 96 })
   -- two lines of half a gram each are rounded once, to a gram
   pub once : calculates (case 6 6 (line 30 1 0 1000 0 0 ∷ line 30 1 0 1000 0 0 ∷ []) (gives [])) ≡ gives (0 ∷ 0 ∷ 1 ∷ 298 ∷ [])
   -- "Dust without a measured share has B 10,000 and takes nothing away"

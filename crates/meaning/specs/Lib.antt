@@ -6,3 +6,5 @@ pub mod Text
 pub mod Calls
 pub mod Starred
 pub mod Examples
+pub mod Kinds
+pub mod ByHand
