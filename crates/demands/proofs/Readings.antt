@@ -19,7 +19,7 @@ use Rattle.meaning.specs.declared.Kind.the-variants.{Fuel, FlareCarbon, FlareMe
 use Rattle.meaning.specs.declared.Decoded.the-variants.{Good}
 use Rattle.meaning.specs.Methods.{carbonates, acids, within, inRange, byMethod, decoded}
 use Rattle.meaning.specs.Masses.{Contribution, contribution}
-use Rattle.demands.specs.Table.{Among, In, adds, takes, MethodRow, Fits, content, anyUnit, one-to-six, table, rowAt, amount}
+use Rattle.demands.specs.Table.{Among, In, adds, takes, MethodRow, Fits, content, 1-to-4, 1-to-6, table, rowAt, amount}
 use Rattle.demands.proofs.Among.{among-range, only, among-within}
 
 -- a line whose ranges are kept, unit by unit
@@ -46,8 +46,8 @@ module _ (m p : ℕ) (l : RawLine) where
   abbrev pub Reading : MethodRow → Type 0
   Reading r = Fits r m p l → Reads m p l r
 
-  any-unit : Among anyUnit (l .unit) → within 1 4 (l .unit) ≡ true
-  any-unit = among-within anyUnit 1 4 (l .unit) (omega arith)
+  any-unit : Among 1-to-4 (l .unit) → within 1 4 (l .unit) ≡ true
+  any-unit = among-within 1-to-4 1 4 (l .unit) (omega arith)
 
   gas-unit : Among (1 ∷ 2 ∷ []) (l .unit) → within 1 2 (l .unit) ≡ true
   gas-unit = among-within (1 ∷ 2 ∷ []) 1 2 (l .unit) (omega arith)
@@ -119,13 +119,13 @@ module _ (m p : ℕ) (l : RawLine) where
   feed : Reading (rowAt 8)
   unfolding decoded byMethod good
   feed f =
-      let s = up-to-six one-to-six (omega arith) (f .ofParameter) in
+      let s = up-to-six 1-to-6 (omega arith) (f .ofParameter) in
       (good (Feed (l .a)), rw (f .ofMethod, s, full-kept (f .q) (f .a) (f .b), f .ofKind, any-unit (f .inUnit), only (f .coded), f .b), rw (f .b))
 
   product : Reading (rowAt 9)
   unfolding decoded byMethod good
   product f =
-      let s = up-to-six one-to-six (omega arith) (f .ofParameter) in
+      let s = up-to-six 1-to-6 (omega arith) (f .ofParameter) in
       (good (Product (l .a)), rw (f .ofMethod, s, full-kept (f .q) (f .a) (f .b), f .ofKind, any-unit (f .inUnit), only (f .coded), f .b), rw (f .b))
 
   by-product : Reading (rowAt 10)
@@ -162,8 +162,8 @@ module _ (m p : ℕ) (l : RawLine) where
   unfolding decoded byMethod good
   nitric f = (
     good (NitricAcid (getD acids p 0)),
-    rw (f .ofMethod, up-to-six one-to-six (omega arith) (f .ofParameter), le-leb (l .q) 10000000000 (f .q), only (f .inUnit), f .a, f .b, f .ofKind, only (f .coded)),
-    rw (behind-filler (20000 ∷ 25000 ∷ 50000 ∷ 75000 ∷ 90000 ∷ 5 ∷ []) p (among-range one-to-six 1 6 (omega arith) (f .ofParameter) .0)),
+    rw (f .ofMethod, up-to-six 1-to-6 (omega arith) (f .ofParameter), le-leb (l .q) 10000000000 (f .q), only (f .inUnit), f .a, f .b, f .ofKind, only (f .coded)),
+    rw (behind-filler (20000 ∷ 25000 ∷ 50000 ∷ 75000 ∷ 90000 ∷ 5 ∷ []) p (among-range 1-to-6 1 6 (omega arith) (f .ofParameter) .0)),
   )
 
   pub each-reads : Each Reading table

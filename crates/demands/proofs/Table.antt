@@ -16,8 +16,8 @@ use Rattle.meaning.specs.declared.Line.{Line}
 use Rattle.meaning.specs.declared.Kind.{Kind}
 use Rattle.meaning.specs.declared.Decoded.{Decoded}
 use Rattle.meaning.specs.declared.Decoded.the-variants.{Good, Bad}
-use Rattle.meaning.specs.Methods.{within, listed, inRange, given, isKind, anyUnit as anyUnit₀, gasUnit, inTonnes, coded, codeFrom, bWhole, balanced, fuel, flare, metals, petrochemical, cement, nitricAcid, byMethod, decoded}
-use Rattle.demands.specs.Table.{Among, In, content, anyUnit, one-to-six, table, rowAt, FitsAt, NoRow}
+use Rattle.meaning.specs.Methods.{within, listed, inRange, given, isKind, anyUnit, gasUnit, inTonnes, coded, codeFrom, bWhole, balanced, fuel, flare, metals, petrochemical, cement, nitricAcid, byMethod, decoded}
+use Rattle.demands.specs.Table.{Among, In, content, 1-to-4, 1-to-6, table, rowAt, FitsAt, NoRow}
 use Rattle.demands.proofs.Among.{range-among, within-range}
 use Rattle.demands.proofs.Readings.{Reading, each-reads}
 
@@ -50,7 +50,7 @@ single m = eqb m 1 || eqb m 2 || eqb m 3 || eqb m 5
 abbrev pub sixfold : ℕ → Bool
 sixfold m = eqb m 4 || eqb m 6
 
-pub listed-either : (m p : ℕ) → listed m p ≡ true → ((single m ≡ true) × Among (0 ∷ []) p) ⊎ ((sixfold m ≡ true) × Among one-to-six p)
+pub listed-either : (m p : ℕ) → listed m p ≡ true → ((single m ≡ true) × Among (0 ∷ []) p) ⊎ ((sixfold m ≡ true) × Among 1-to-6 p)
 unfolding countUp
 listed-either m p e =
     ⊎-elim (λ h. let r = and-true (single m) (eqb p 0) h in inl (r .0, inl (eqb-true p 0 (r .1))))
@@ -70,7 +70,7 @@ module _ (m p : ℕ) (l : RawLine) (pair : listed m p ≡ true) (range : inRange
   parameter-zero : sixfold m ≡ false → Among (0 ∷ []) p
   parameter-zero f = ⊎-elim (λ h. h .1) (λ h. absurd (clash (h .0) f)) (listed-either m p pair)
 
-  parameter-six : single m ≡ false → Among one-to-six p
+  parameter-six : single m ≡ false → Among 1-to-6 p
   parameter-six f = ⊎-elim (λ h. absurd (clash (h .0) f)) (λ h. h .1) (listed-either m p pair)
 
   -- the tests of the meaning, one by one
@@ -92,11 +92,11 @@ module _ (m p : ℕ) (l : RawLine) (pair : listed m p ≡ true) (range : inRange
   kind-and : (k : ℕ) (t : Bool) → isKind k l && t ≡ true → (l .kind ≡ k) × (t ≡ true)
   kind-and k t e = let c = and-true (isKind k l) t e in (eqb-true (l .kind) k (c .0), c .1)
 
-  balance-line : (k : ℕ) → isKind k l && balanced l ≡ true → (l .kind ≡ k) × Among anyUnit (l .unit) × Among (0 ∷ []) (l .code) × (l .b ≡ 10000)
+  balance-line : (k : ℕ) → isKind k l && balanced l ≡ true → (l .kind ≡ k) × Among 1-to-4 (l .unit) × Among (0 ∷ []) (l .code) × (l .b ≡ 10000)
   balance-line k t =
       let i = kind-and k (balanced l) t in
-      let c = and-true (anyUnit₀ l && coded 0 l) (bWhole l) (i .1) in
-      let d = and-true (anyUnit₀ l) (coded 0 l) (c .0) in
+      let c = and-true (anyUnit l && coded 0 l) (bWhole l) (i .1) in
+      let d = and-true (anyUnit l) (coded 0 l) (c .0) in
       (i .0, one-to-four (l .unit) (d .0), same (l .code) 0 (d .1), eqb-true (l .b) 10000 (c .1))
 
   carbonate-line : (k : ℕ) → isKind k l && inTonnes l && codeFrom 1 4 l ≡ true → (l .kind ≡ k) × Among (1 ∷ []) (l .unit) × Among (1 ∷ 2 ∷ 3 ∷ 4 ∷ []) (l .code)
@@ -118,8 +118,8 @@ module _ (m p : ℕ) (l : RawLine) (pair : listed m p ≡ true) (range : inRange
       let z = parameter-zero (rw e) in
       link _ _ _
       (λ t.
-      let c = and-true (isKind 1 l && anyUnit₀ l) (coded 3 l || codeFrom 1 2 l && bWhole l) t in
-      let k = kind-and 1 (anyUnit₀ l) (c .0) in
+      let c = and-true (isKind 1 l && anyUnit l) (coded 3 l || codeFrom 1 2 l && bWhole l) t in
+      let k = kind-and 1 (anyUnit l) (c .0) in
       ⊎-elim
       (λ h. at 1 (omega arith) e z (k .0) (one-to-four (l .unit) (k .1)) (same (l .code) 3 h) (ranges .1) (ranges .2))
       (λ h. let d = and-true (codeFrom 1 2 l) (bWhole l) h in

@@ -17,7 +17,7 @@ use Rattle.basis.proofs.Counting.{any-some, some-any}
 use Rattle.meaning.specs.Methods.{within, listed}
 use Rattle.meaning.specs.Register.{sourceAt, lineStart, nameStart, misplaced, unsound, badNameByte, wrongSource}
 use Rattle.meaning.specs.Register.{lineAt}
-use Rattle.demands.specs.Table.{Among, one-to-six}
+use Rattle.demands.specs.Table.{Among, 1-to-6}
 use Rattle.demands.specs.Fields.{sourcesIn, linesIn, nameBytesIn, number, method, parameter, lineCount, firstLine, nameLength, nameOffset, linesBefore, namesBefore, nameAt, nameByte}
 use Rattle.demands.specs.Refusals.{Listed, WrongSource}
 use Rattle.demands.proofs.Among.{only, among-within}
@@ -58,7 +58,7 @@ then-listed : (m p : ℕ) → Listed m p → listed m p ≡ true
 then-listed m p (inl h) = either-or (single m && eqb p 0) (sixfold m && within 1 6 p) (inl (true-and (single m) (eqb p 0) (among-single m (h .0)) (eq-eqb p 0 (h .1))))
 then-listed m p (inr h) =
     either-or (single m && eqb p 0) (sixfold m && within 1 6 p)
-    (inr (true-and (sixfold m) (within 1 6 p) (among-sixfold m (h .0)) (among-within one-to-six 1 6 p (omega arith) (h .1))))
+    (inr (true-and (sixfold m) (within 1 6 p) (among-sixfold m (h .0)) (among-within 1-to-6 1 6 p (omega arith) (h .1))))
 
 -- what may be wrong, in turn
 module _ (b : List ℕ) (i : ℕ) where

@@ -8,7 +8,7 @@ use Rattle.basis.specs.Bytes.{numberAt, Bytes}
 use Rattle.meaning.specs.declared.RawLine.{RawLine}
 use Rattle.meaning.specs.Report.{Entry, entriesOf}
 use Rattle.meaning.specs.Text.{reportText}
-use Rattle.demands.specs.Table.{Among, one-to-six, CO2, CH4, N2O, adds, takes, NoRow, FitAll, total, Nearest}
+use Rattle.demands.specs.Table.{Among, 1-to-6, CO2, CH4, N2O, adds, takes, NoRow, FitAll, total, Nearest}
 use Rattle.demands.specs.Fields.{yearIn, sourcesIn, linesIn, nameBytesIn, number, method, parameter, lineCount, firstLine, nameLength, nameOffset, linesBefore, namesBefore, nameByte, lineAt, linesOf, reportYear, entriesIn, reportNumber}
 use Rattle.demands.specs.Valid.{IsReport}
 use Rattle.demands.specs.Exactly.{Row, at, atSmallest, withNumber}
@@ -31,7 +31,7 @@ headerRows b =
 
 -- "a pair listed under the methods": the sixteen
 abbrev pub Listed : ℕ → ℕ → Type 0
-Listed m p = (Among (1 ∷ 2 ∷ 3 ∷ 5 ∷ []) m × (p ≡ 0)) ⊎ (Among (4 ∷ 6 ∷ []) m × Among one-to-six p)
+Listed m p = (Among (1 ∷ 2 ∷ 3 ∷ 5 ∷ []) m × (p ≡ 0)) ⊎ (Among (4 ∷ 6 ∷ []) m × Among 1-to-6 p)
 
 -- 3: what may be wrong with source entry i or its name. "number (4, not zero), method and parameter (.. a pair listed ..), line count (2, at least 1)
 -- .. name length (2, 1 to 64)"; "A name byte is none below 32 and not 127"; "each next where the one before ended"; "An entry whose lines or

@@ -80,9 +80,21 @@ row method parameters kind units codes a b gas sign product factor =
       factor = factor;
     }
 
--- "1 tonne, 2 thousand m3, 3 tonne of standard fuel, 4 TJ"
-abbrev pub anyUnit : List ℕ
-anyUnit = 1 ∷ 2 ∷ 3 ∷ 4 ∷ []
+-- what parameters, units and codes may be
+abbrev pub just : ℕ → List ℕ
+just n = n ∷ []
+
+abbrev pub 1-or-2 : List ℕ
+1-or-2 = 1 ∷ 2 ∷ []
+
+abbrev pub 2-or-5 : List ℕ
+2-or-5 = 2 ∷ 5 ∷ []
+
+abbrev pub 1-to-4 : List ℕ
+1-to-4 = 1 ∷ 2 ∷ 3 ∷ 4 ∷ []
+
+abbrev pub 1-to-6 : List ℕ
+1-to-6 = 1 ∷ 2 ∷ 3 ∷ 4 ∷ 5 ∷ 6 ∷ []
 
 -- "A is in millionths: at most 1,000,000 where the unit is tonne, else at most 99,999,999"; "B is in ten-thousandths, 0 to 10,000"
 abbrev pub content : Range
@@ -103,33 +115,30 @@ carbonate = byCode (440 ∷ 522 ∷ 477 ∷ 380 ∷ [])
 abbrev pub acid : Factor
 acid = byParameter (20000 ∷ 25000 ∷ 50000 ∷ 75000 ∷ 90000 ∷ 5 ∷ [])
 
-abbrev pub one-to-six : List ℕ
-one-to-six = 1 ∷ 2 ∷ 3 ∷ 4 ∷ 5 ∷ 6 ∷ []
-
--- method, parameters, kind, units, codes, A, B; gas, sign, product, factor
+-- Method, parameters, kind, units (1 tonne, 2 thousand m3, 3 tonne of standard fuel, 4 TJ), codes, A, B; then gas, sign, product and factor
 abbrev pub table : List MethodRow
 table =
     -- 1 fuel: gas and liquid; solid
-    row 1 (0 ∷ []) 1 anyUnit (1 ∷ 2 ∷ []) content (exactly 10000) CO2 adds Q·A·B carbon
-    ∷ row 1 (0 ∷ []) 1 anyUnit (3 ∷ []) content share CO2 adds Q·A·B carbon
+    row 1 (just 0) 1 1-to-4 1-or-2 content (exactly 10000) CO2 adds Q·A·B carbon
+    ∷ row 1 (just 0) 1 1-to-4 (just 3) content share CO2 adds Q·A·B carbon
     -- 2 flare: carbon that burns; methane that does not
-    ∷ row 2 (0 ∷ []) 1 (1 ∷ 2 ∷ []) (0 ∷ []) content share CO2 adds Q·A·[10000-B] carbon
-    ∷ row 2 (0 ∷ []) 2 (1 ∷ 2 ∷ []) (0 ∷ []) content share CH4 adds Q·A·B (always 1)
+    ∷ row 2 (just 0) 1 1-or-2 (just 0) content share CO2 adds Q·A·[10000-B] carbon
+    ∷ row 2 (just 0) 2 1-or-2 (just 0) content share CH4 adds Q·A·B (always 1)
     -- 3 metals: in, out, opening stock, closing stock
-    ∷ row 3 (0 ∷ []) 10 anyUnit (0 ∷ []) content (exactly 10000) CO2 adds Q·A·B carbon
-    ∷ row 3 (0 ∷ []) 11 anyUnit (0 ∷ []) content (exactly 10000) CO2 takes Q·A·B carbon
-    ∷ row 3 (0 ∷ []) 12 anyUnit (0 ∷ []) content (exactly 10000) CO2 adds Q·A·B carbon
-    ∷ row 3 (0 ∷ []) 13 anyUnit (0 ∷ []) content (exactly 10000) CO2 takes Q·A·B carbon
+    ∷ row 3 (just 0) 10 1-to-4 (just 0) content (exactly 10000) CO2 adds Q·A·B carbon
+    ∷ row 3 (just 0) 11 1-to-4 (just 0) content (exactly 10000) CO2 takes Q·A·B carbon
+    ∷ row 3 (just 0) 12 1-to-4 (just 0) content (exactly 10000) CO2 adds Q·A·B carbon
+    ∷ row 3 (just 0) 13 1-to-4 (just 0) content (exactly 10000) CO2 takes Q·A·B carbon
     -- 4 petrochemical: feed, product, by-product
-    ∷ row 4 one-to-six 10 anyUnit (0 ∷ []) content (exactly 10000) CO2 adds Q·A·B carbon
-    ∷ row 4 one-to-six 11 anyUnit (0 ∷ []) content (exactly 10000) CO2 takes Q·A·B carbon
-    ∷ row 4 (2 ∷ 5 ∷ []) 14 anyUnit (0 ∷ []) content (exactly 10000) CO2 takes Q·A·B carbon
+    ∷ row 4 1-to-6 10 1-to-4 (just 0) content (exactly 10000) CO2 adds Q·A·B carbon
+    ∷ row 4 1-to-6 11 1-to-4 (just 0) content (exactly 10000) CO2 takes Q·A·B carbon
+    ∷ row 4 2-or-5 14 1-to-4 (just 0) content (exactly 10000) CO2 takes Q·A·B carbon
     -- 5 cement: carbonate charged, kiln dust not returned, carbon other than fuel
-    ∷ row 5 (0 ∷ []) 20 (1 ∷ []) (1 ∷ 2 ∷ 3 ∷ 4 ∷ []) content share CO2 adds Q·A·B carbonate
-    ∷ row 5 (0 ∷ []) 21 (1 ∷ []) (1 ∷ 2 ∷ 3 ∷ 4 ∷ []) content share CO2 takes Q·A·[10000-B] carbonate
-    ∷ row 5 (0 ∷ []) 22 (1 ∷ []) (0 ∷ []) content (exactly 10000) CO2 adds Q·A·B carbon
+    ∷ row 5 (just 0) 20 (just 1) 1-to-4 content share CO2 adds Q·A·B carbonate
+    ∷ row 5 (just 0) 21 (just 1) 1-to-4 content share CO2 takes Q·A·[10000-B] carbonate
+    ∷ row 5 (just 0) 22 (just 1) (just 0) content (exactly 10000) CO2 adds Q·A·B carbon
     -- 6 nitric acid
-    ∷ row 6 one-to-six 30 (1 ∷ []) (0 ∷ []) (exactly 0) (exactly 0) N2O adds Q acid
+    ∷ row 6 1-to-6 30 (just 1) (just 0) (exactly 0) (exactly 0) N2O adds Q acid
     ∷ []
 
 -- a row fits a line of a method and parameter
