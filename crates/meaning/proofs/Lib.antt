@@ -1,3 +1,4 @@
 pub mod Opened
 pub mod Computed
 pub mod Laws
+pub mod Sources

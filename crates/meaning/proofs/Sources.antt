@@ -1,0 +1,64 @@
+-- The sources of a register: where an entry stands, its number by index, and the numbers that stand twice. Assumes nothing.
+use mathlib.Core.List.{List, [], map}
+use mathlib.Core.Bool.{true, false}
+use mathlib.Core.Path.{_≡_, sym, ap, _∙_}
+use Prim.Native.Nat.{ℕ, _+_, _≤_, _<_}
+use native.Mathlib.Nat.{zero-add}
+use native.Mathlib.Omega.{arith}
+use lib.Dec.{eqb}
+use lib.ListN.{length, getD, take, length-map, List·getD-map, length-take}
+use lib.Seq.{getD-take}
+use borrow.Author.Tests.{ltb-false, eqb-true, eq-eqb, not-false}
+use Rattle.basis.specs.Lists.{countUp, stands}
+use Rattle.basis.proofs.Bools.{or-false}
+use Rattle.basis.proofs.Counting.{any-some, some-any, getD-counted}
+use Rattle.basis.proofs.Lists.{length-countUp}
+use Rattle.meaning.specs.Register.{Source, sourceCount, lineCount, nameBytes, sourceEntry, numberIn, lineCountIn, firstLineIn, nameLengthIn, nameOffsetIn, sourceAt, sourcesOf, lineStart, nameStart, misplaced, repeats}
+
+-- an entry that stands where the one before it ended, with its lines and its name within the register's
+pub record Placed (b : List ℕ) (i : ℕ) : Type 0 where
+  pub line : firstLineIn (sourceEntry b i) ≡ lineStart b i
+  pub name : nameOffsetIn (sourceEntry b i) ≡ nameStart b i
+  pub lines : firstLineIn (sourceEntry b i) + lineCountIn (sourceEntry b i) ≤ lineCount b
+  pub names : nameOffsetIn (sourceEntry b i) + nameLengthIn (sourceEntry b i) ≤ nameBytes b
+
+pub placed : (b : List ℕ) (i : ℕ) → misplaced b i ≡ false → Placed b i
+unfolding misplaced
+placed b i e =
+    let c1 = or-false _ _ e in
+    let c2 = or-false _ _ (c1 .0) in
+    let c3 = or-false _ _ (c2 .0) in
+    record {
+      line = eqb-true _ _ (not-false _ (c3 .0));
+      name = eqb-true _ _ (not-false _ (c3 .1));
+      lines = ltb-false _ _ (c2 .1);
+      names = ltb-false _ _ (c1 .1);
+    }
+
+-- the numbers of a register's sources, by index
+abbrev pub sourceNumbers : List ℕ → List ℕ
+sourceNumbers b = map (λ s. s .number) (sourcesOf b)
+
+pub length-numbers : (b : List ℕ) → length (sourceNumbers b) ≡ sourceCount b
+unfolding sourcesOf
+length-numbers b = length-map (sourcesOf b) (λ s. s .number) ∙ length-map (countUp 0 (sourceCount b)) (sourceAt b) ∙ length-countUp 0 (sourceCount b)
+
+pub number-at : (b : List ℕ) (i : ℕ) → i < sourceCount b → getD (sourceNumbers b) i 0 ≡ numberIn (sourceEntry b i)
+unfolding sourcesOf sourceAt
+number-at b i l =
+    let none : Source = record { number = 0; method = 0; parameter = 0; name = []; lines = [] } in
+    List·getD-map (λ s. s .number) (sourcesOf b) i none ∙ ap (λ (s : Source). s .number) (getD-counted (sourceAt b) none (sourceCount b) 0 i l ∙ ap (sourceAt b) (zero-add i))
+
+-- a number stands in the front of a list exactly if it stands at a smaller index
+pub repeats-some : (ns : List ℕ) (i : ℕ) → i < length ns → repeats ns i ≡ true → (j : ℕ) × (j < i) × (getD ns j 0 ≡ getD ns i 0)
+unfolding repeats stands
+repeats-some ns i l e =
+    let r = any-some (λ m. eqb m (getD ns i 0)) 0 (take i ns) e in
+    let m : r .0 < i = omega (arith, rw length-take at (r .1)) in
+    (r .0, m, sym (getD-take i ns (r .0) 0 m) ∙ eqb-true _ _ (r .2))
+
+pub some-repeats : (ns : List ℕ) (i j : ℕ) → i < length ns → j < i → getD ns j 0 ≡ getD ns i 0 → repeats ns i ≡ true
+unfolding repeats stands
+some-repeats ns i j l m e =
+    let q : j < length (take i ns) = rw length-take (omega arith) in
+    some-any (λ m. eqb m (getD ns i 0)) 0 (take i ns) j q (eq-eqb _ _ (getD-take i ns j 0 m ∙ e))
