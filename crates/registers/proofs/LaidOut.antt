@@ -1,0 +1,52 @@
+-- Tests 1 to 3, and what a header that has passed is good for. Assumes nothing.
+use mathlib.Core.Bool.{not, _||_}
+use mathlib.Core.List.{List, [], _∷_, _++_}
+use mathlib.Core.Path.{_≡_, sym, _∙_}
+use Prim.Native.Nat.{ℕ, _≤_, _<_}
+use native.Mathlib.Omega.{arith}
+use borrow.Author.Needs.{needs}
+use borrow.Author.Tests.{ltb-false, lt-ltb, le-ltb, eqb-true, not-false}
+use lib.Dec.{eqb}
+use lib.ListN.{length}
+use Rattle.basis.specs.declared.Verdict.{Verdict}
+use Rattle.basis.specs.declared.Verdict.the-variants.{Passes, Refuses}
+use Rattle.basis.specs.Bytes.{numberAt}
+use Rattle.basis.specs.Answers.{firstRefusal}
+use Rattle.basis.proofs.Answers.{each-passes, passed-if, passed-then, refused-then, passed-append}
+use Rattle.basis.proofs.Bools.{or-false}
+use Rattle.meaning.specs.Register.{sourcesAt, sourceCount, lineCount, nameBytes, wholeLength, lengthTest, headerTests, sourceTest, restTest}
+use Rattle.registers.specs.Layout.{layoutTests, Headed}
+use Rattle.registers.proofs.Sources.{overSources}
+
+-- a header that passes
+pub headed : (b : List ℕ) → firstRefusal (headerTests b) ≡ Passes → Headed b
+unfolding headerTests
+headed b e =
+    let h = each-passes (headerTests b) e in
+    let whole = wholeLength (sourceCount b) (lineCount b) (nameBytes b) in
+    let last = or-false (not (eqb (numberAt 4 b 28) whole)) (not (eqb (length b) whole)) (passed-if _ 2 28 (h .1 .1 .1 .1 .1 .1 .1 .1 .1 .0)) in
+    record {
+      sources = ltb-false _ _ (passed-if _ 2 8 (h .1 .1 .1 .0));
+      lines = ltb-false _ _ (passed-if _ 2 10 (h .1 .1 .1 .1 .0));
+      names = ltb-false _ _ (passed-if _ 2 12 (h .1 .1 .1 .1 .1 .0));
+      whole = eqb-true _ _ (not-false _ (last .1));
+    }
+
+module _ (b : List ℕ) where
+  pub short : length b < sourcesAt → Refuses 1 0 ≡ firstRefusal (layoutTests b)
+  unfolding layoutTests firstRefusal
+  short h = rw (lt-ltb (length b) 32 h)
+
+  pub header-passes : {v : Verdict} → v ≡ firstRefusal (headerTests b) → v ≡ Passes → Headed b
+  header-passes e f = headed b (sym e ∙ f)
+
+  module _ (h : sourcesAt ≤ length b) {v : Verdict} (e : v ≡ firstRefusal (headerTests b)) where
+    pub header-refused : {n p : ℕ} → v ≡ Refuses n p → v ≡ firstRefusal (layoutTests b)
+    unfolding layoutTests firstRefusal
+    header-refused f = f ∙ rw (le-ltb (length b) 32 h) (sym (refused-then (headerTests b) (sourceTest b ∷ restTest b ∷ []) (sym e ∙ f)))
+
+    pub header-passed : {w : Verdict} → v ≡ Passes → w ≡ overSources b → w ≡ firstRefusal (layoutTests b)
+    unfolding layoutTests firstRefusal
+    header-passed f g = g ∙ rw (le-ltb (length b) 32 h) (sym (passed-then (headerTests b) (sourceTest b ∷ restTest b ∷ []) (sym e ∙ f)))
+
+pub ruleset layout = (needs, short, header-passes, header-refused, header-passed)

@@ -1,0 +1,16 @@
+use borrow.Author.Needs.{needs}
+use Rattle.registers.proofs.LaidOut.{layout}
+use Rattle.registers.proofs.test_layout.Statement.{statement}
+use Rattle.registers.proofs.test_layout.Tie as tie
+
+pub test-layout-spec : {M : Type 1} → statement M
+test-layout-spec =
+    tie.close
+    (tie.spec
+    (λ c. search layout)
+    (search needs)
+    (search needs)
+    (search needs)
+    (λ c. search layout)
+    (λ c κs. search layout)
+    (λ c. search layout))
