@@ -7,3 +7,4 @@ pub mod Rising
 pub mod Repeats
 pub mod Filling
 pub mod Tested
+pub mod Names

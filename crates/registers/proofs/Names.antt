@@ -1,0 +1,205 @@
+-- The lookups: a register that is accepted, a number in it, and where its name stands. Assumes nothing.
+use mathlib.Core.Bool.{Bool, true, false, cond, not, _&&_}
+use mathlib.Core.List.{List, [], _∷_}
+use mathlib.Core.Path.{_≡_, refl, sym, ap, _∙_}
+use Prim.Native.Nat.{ℕ, _+_, _^_, _≤_, _<_}
+use native.Mathlib.Omega.{arith}
+use borrow.Author.Needs.{needs}
+use borrow.Author.Tests.{ltb-true, lt-ltb, le-ltb}
+use lib.Dec.{eqb, ltb}
+use lib.ListN.{length}
+use Rattle.basis.specs.declared.Verdict.{Verdict}
+use Rattle.basis.specs.declared.Verdict.the-variants.{Passes, Refuses}
+use Rattle.basis.specs.First.{first}
+use Rattle.basis.specs.Answers.{firstRefusal, passes}
+use Rattle.basis.proofs.Answers.{passed-at-all, passed-append, each-passes}
+use Rattle.basis.proofs.Bools.{clash, and-true, or-false}
+use Rattle.fields.specs.Fields.{Field}
+use Rattle.meaning.specs.declared.Part.{Part}
+use Rattle.meaning.specs.declared.Found.{Found}
+use Rattle.meaning.specs.Register.{sourceCount, sourceEntry, nameLengthIn, namePlace, lengthTest, headerTests, sourceAt, misplaced, unsound, wrongSource, sourceTest, restTest, sourcesOf, repeatTest, registerTests}
+use Rattle.meaning.specs.Calls.{accepted, hasNumber, indexOf, holds, nameAt, found, inRegister, foundOfTwo}
+use Rattle.meaning.proofs.Sources.{Placed, placed}
+use Rattle.registers.specs.declared.Sought.{Sought}
+use Rattle.registers.specs.Layout.{layoutTests, Headed, HasEntry}
+use Rattle.registers.specs.Keys.{Tested}
+use Rattle.registers.specs.Lookups.{Seeks}
+use Rattle.registers.proofs.Scans.{Scanning, scan-none, scan-found, scan-more, scan-all}
+use Rattle.registers.proofs.Tested.{in-two, layout-headed}
+
+pub accepted-is : {b keys left : List ℕ} {v : Verdict} {ok : Bool} → Tested b keys v left → ok ≡ passes v → ok ≡ accepted b
+unfolding accepted
+accepted-is t e = e ∙ ap passes (t .verdict)
+
+-- what a register that is accepted keeps
+module _ (b : List ℕ) (e : accepted b ≡ true) where
+  layout-passes : firstRefusal (layoutTests b) ≡ Passes
+  unfolding accepted
+  layout-passes =
+      let f : firstRefusal (registerTests b) ≡ Passes = by (firstRefusal (registerTests b)) e in
+      passed-append (layoutTests b) (repeatTest (sourcesOf b) ∷ []) (rw (in-two b) at f) .0
+    where
+      by : (v : Verdict) → passes v ≡ true → v ≡ Passes
+      by Passes f = refl
+      by (Refuses n p) f = absurd (clash f refl)
+
+  pub accepted-headed : Headed b
+  accepted-headed = layout-headed b (sym layout-passes) refl
+
+  pub accepted-counts : 10 ≤ length b
+  accepted-counts = omega (arith, accepted-headed .whole)
+
+  accepted-placed : (i : ℕ) → i < sourceCount b → Placed b i
+  unfolding layoutTests sourceTest wrongSource
+  accepted-placed i l =
+      let back = passed-append (lengthTest b ∷ headerTests b) (sourceTest b ∷ restTest b ∷ []) layout-passes .1 in
+      let none = passed-at-all 3 (wrongSource b) (sourceCount b) .0 (each-passes (sourceTest b ∷ restTest b ∷ []) back .0) in
+      placed b i (or-false (misplaced b i) (unsound (sourceAt b i)) (none i l) .0)
+
+pub accepted-by : {ok : Bool} (b : List ℕ) → ok ≡ accepted b → ok ≡ true → accepted b ≡ true
+accepted-by b e f = sym e ∙ f
+
+-- the entries before i have another number
+pub record Finding (b : List ℕ) (number n i : ℕ) : Type 0 where
+  pub head : Headed b
+  pub all : n ≡ sourceCount b
+  pub scanning : Scanning (hasNumber b number) n i
+
+pub find-none : {b : List ℕ} {number n : ℕ} → Headed b → Field 2 b 8 n → Finding b number n 0
+find-none h f = record { head = h; all = f .is; scanning = scan-none }
+
+module _ {b : List ℕ} {number n i : ℕ} (f : Finding b number n i) where
+  pub find-entry : i < n → HasEntry b i
+  find-entry h = record { head = f .head; below = omega (arith, f .all) }
+
+  has : {x : ℕ} {hit : Bool} → Field 4 (sourceEntry b i) 0 x → eqb x number ≡ hit → hasNumber b number i ≡ hit
+  unfolding hasNumber
+  has g e = rw (g .is) at e
+
+  pub find-hit : {x : ℕ} → i < n → Field 4 (sourceEntry b i) 0 x → eqb x number ≡ true → i ≡ indexOf b number
+  unfolding indexOf
+  find-hit h g e = rw (← f .all) (scan-found (f .scanning) h (has g e))
+
+  pub find-more : {x : ℕ} → i < n → Field 4 (sourceEntry b i) 0 x → eqb x number ≡ false → Finding b number n (i + 1)
+  find-more h g e = record { head = f .head; all = f .all; scanning = scan-more (f .scanning) h (has g e) }
+
+  pub find-all : n ≤ i → i ≡ indexOf b number
+  unfolding indexOf
+  find-all h = rw (← f .all) (scan-all (f .scanning) h)
+
+pub ruleset finding = (needs, find-none, find-entry, find-hit, find-more, find-all)
+
+abbrev nothing : Part
+nothing = record { offset = 0; length = 0 }
+
+pub sought-entry : {b : List ℕ} {n i : ℕ} → accepted b ≡ true → Field 2 b 8 n → i < n → HasEntry b i
+sought-entry {b} e f h = record { head = accepted-headed b e; below = omega (arith, f .is) }
+
+-- what is sought in a register that is accepted, and in one that is not
+module _ {b : List ℕ} {number n i : ℕ} (e : accepted b ≡ true) (f : Field 2 b 8 n) (g : i ≡ indexOf b number) where
+  pub sought-held : {p : Part} → i < n → p ≡ nameAt b i → Seeks b number (record { accepted = true; held = true; name = p })
+  unfolding holds found
+  sought-held h q =
+      let l : ltb (indexOf b number) (sourceCount b) ≡ true = rw (← g, ← f .is) (lt-ltb i n h) in
+      record { taken = sym e; holding = rw (e, l); place = rw (e, l) (rw g at q) }
+
+  pub sought-absent : n ≤ i → Seeks b number (record { accepted = true; held = false; name = nothing })
+  unfolding holds found
+  sought-absent h =
+      let l : ltb (indexOf b number) (sourceCount b) ≡ false = rw (← g, ← f .is) (le-ltb i n h) in
+      record { taken = sym e; holding = rw (e, l); place = rw (e, l) }
+
+pub sought-refused : {number : ℕ} {ok : Bool} (b : List ℕ) → ok ≡ accepted b → ok ≡ false → Seeks b number (record { accepted = false; held = false; name = nothing })
+unfolding found
+sought-refused b e f = let r : accepted b ≡ false = sym e ∙ f in record { taken = sym r; holding = rw r; place = rw r }
+
+pub name-there : {start size : ℕ} (b : List ℕ) (i : ℕ) → (start ≡ namePlace b i) × (start < 2 ^ 40) → Field 2 (sourceEntry b i) 10 size
+    → _≡_ {A = Part} (record { offset = start; length = size }) (nameAt b i)
+unfolding nameAt
+name-there b i p f = rw (p .0, f .is)
+
+pub ruleset seeking =
+    (needs, accepted-is, accepted-by, accepted-headed, accepted-counts, sought-entry, sought-held, sought-absent, sought-refused, name-there)
+
+-- a name found stands within the register
+found-within : (b : List ℕ) (number : ℕ) → found b number .offset + found b number .length ≤ length b
+unfolding found holds nameAt
+found-within b number = by (accepted b && holds b number) refl
+  where
+    by : (t : Bool) → accepted b && holds b number ≡ t
+        → cond t (nameAt b (indexOf b number)) nothing .offset + cond t (nameAt b (indexOf b number)) nothing .length ≤ length b
+    by true e =
+        let both = and-true (accepted b) (holds b number) e in
+        let l = ltb-true (indexOf b number) (sourceCount b) (both .1) in
+        omega (arith, accepted-placed b (both .0) (indexOf b number) l .names, accepted-headed b (both .0) .whole)
+    by false e = omega arith
+
+pub within : {p : Part} (b : List ℕ) (number : ℕ) → p ≡ found b number → p .offset + p .length ≤ length b
+within b number e = rw e (found-within b number)
+
+-- and one found in either register within that one
+module _ (plant contractor : List ℕ) (number : ℕ) where
+  abbrev chosen : Bool → Bool → Found
+  chosen here there = cond here (inRegister 1 (found plant number)) (cond there (inRegister 2 (found contractor number)) (record { which = 1; offset = 0; length = 0 }))
+
+  abbrev here : Bool
+  here = accepted plant && accepted contractor && holds plant number && not (holds contractor number)
+
+  abbrev there : Bool
+  there = accepted plant && accepted contractor && not (holds plant number) && holds contractor number
+
+  abbrev Inside : Found → Type 0
+  Inside f = (eqb (f .which) 1 ≡ true → f .offset + f .length ≤ length plant) × (eqb (f .which) 1 ≡ false → f .offset + f .length ≤ length contractor)
+
+  inside : Inside (foundOfTwo plant contractor number)
+  unfolding foundOfTwo
+  inside = by here there
+    where
+      by : (here there : Bool) → Inside (chosen here there)
+      by true there = (λ _. found-within plant number, λ e. absurd (clash refl e))
+      by false true = (λ e. absurd (clash e refl), λ _. found-within contractor number)
+      by false false = (λ _. omega arith, λ _. omega arith)
+
+  module _ {f : Found} (e : f ≡ foundOfTwo plant contractor number) where
+    pub within-plant : eqb (f .which) 1 ≡ true → f .offset + f .length ≤ length plant
+    within-plant t = rw e (inside .0 (rw e at t))
+
+    pub within-contractor : eqb (f .which) 1 ≡ false → f .offset + f .length ≤ length contractor
+    within-contractor t = rw e (inside .1 (rw e at t))
+
+-- two registers looked through: which of them alone holds the number
+module _ {plant contractor : List ℕ} {number : ℕ} {s t : Sought} (p : Seeks plant number s) (q : Seeks contractor number t) where
+  abbrev both : Bool
+  both = s .accepted && t .accepted
+
+  alone : both && s .held && not (t .held) ≡ here plant contractor number
+  alone = rw (p .taken, q .taken, p .holding, q .holding) (by (accepted plant) (accepted contractor) (holds plant number) (holds contractor number))
+    where
+      by : (a b c d : Bool) → a && b && (a && c) && not (b && d) ≡ a && b && c && not d
+      by true true c d = refl
+      by true false c d = refl
+      by false b c d = refl
+
+  other : both && not (s .held) && t .held ≡ there plant contractor number
+  other = rw (p .taken, q .taken, p .holding, q .holding) (by (accepted plant) (accepted contractor) (holds plant number) (holds contractor number))
+    where
+      by : (a b c d : Bool) → a && b && not (a && c) && (b && d) ≡ a && b && not c && d
+      by true true c d = refl
+      by true false c d = refl
+      by false b c d = refl
+
+  pub found-here : {r : Found} → both && s .held && not (t .held) ≡ true → r ≡ inRegister 1 (s .name) → r ≡ foundOfTwo plant contractor number
+  unfolding foundOfTwo
+  found-here f e = e ∙ rw (p .place, sym alone ∙ f)
+
+  pub found-there : {r : Found} → both && s .held && not (t .held) ≡ false → both && not (s .held) && t .held ≡ true → r ≡ inRegister 2 (t .name)
+      → r ≡ foundOfTwo plant contractor number
+  unfolding foundOfTwo
+  found-there f g e = e ∙ rw (q .place, sym alone ∙ f, sym other ∙ g)
+
+  pub found-nowhere : both && s .held && not (t .held) ≡ false → both && not (s .held) && t .held ≡ false
+      → _≡_ {A = Found} (record { which = 1; offset = 0; length = 0 }) (foundOfTwo plant contractor number)
+  unfolding foundOfTwo
+  found-nowhere f g = rw (sym alone ∙ f, sym other ∙ g)
+
+pub ruleset choosing = (needs, found-here, found-there, found-nowhere)

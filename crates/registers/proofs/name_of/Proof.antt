@@ -1,0 +1,12 @@
+use borrow.Author.Needs.{needs}
+use Rattle.registers.proofs.Names.{within}
+use Rattle.registers.proofs.name_of.Statement.{statement}
+use Rattle.registers.proofs.name_of.Tie as tie
+
+pub name-of-spec : {M : Type 1} → statement M
+name-of-spec =
+    tie.close
+    (tie.spec
+    (search needs)
+    (λ c κs. search (needs, within))
+    (λ c. rw (← c .before .name-place .ensures) (c .part .ensures)))
