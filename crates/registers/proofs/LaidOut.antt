@@ -1,9 +1,8 @@
 -- Tests 1 to 3, and what a header that has passed is good for. Assumes nothing.
-use mathlib.Core.Bool.{not, _||_}
-use mathlib.Core.List.{List, [], _∷_, _++_}
+use mathlib.Core.Bool.{not}
+use mathlib.Core.List.{List, [], _∷_}
 use mathlib.Core.Path.{_≡_, sym, _∙_}
 use Prim.Native.Nat.{ℕ, _≤_, _<_}
-use native.Mathlib.Omega.{arith}
 use borrow.Author.Needs.{needs}
 use borrow.Author.Tests.{ltb-false, lt-ltb, le-ltb, eqb-true, not-false}
 use lib.Dec.{eqb}
@@ -12,11 +11,11 @@ use Rattle.basis.specs.declared.Verdict.{Verdict}
 use Rattle.basis.specs.declared.Verdict.the-variants.{Passes, Refuses}
 use Rattle.basis.specs.Bytes.{numberAt}
 use Rattle.basis.specs.Answers.{firstRefusal}
-use Rattle.basis.proofs.Answers.{each-passes, passed-if, passed-then, refused-then, passed-append}
+use Rattle.basis.proofs.Answers.{each-passes, passed-if, passed-then, refused-then}
 use Rattle.basis.proofs.Bools.{or-false}
-use Rattle.meaning.specs.Register.{sourcesAt, sourceCount, lineCount, nameBytes, wholeLength, lengthTest, headerTests, sourceTest, restTest}
+use Rattle.meaning.specs.Register.{sourcesAt, sourceCount, lineCount, nameBytes, wholeLength, headerTests, sourceTest, restTest}
 use Rattle.registers.specs.Layout.{layoutTests, Headed}
-use Rattle.registers.proofs.Sources.{overSources}
+use Rattle.registers.proofs.sources.Passing.{overSources}
 
 -- a header that passes
 pub headed : (b : List ℕ) → firstRefusal (headerTests b) ≡ Passes → Headed b

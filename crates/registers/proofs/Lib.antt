@@ -1,10 +1,4 @@
-pub mod Header
-pub mod Entries
 pub mod Scans
-pub mod Sources
 pub mod LaidOut
-pub mod Rising
-pub mod Repeats
-pub mod Filling
 pub mod Tested
 pub mod Names

@@ -10,14 +10,13 @@ use lib.Dec.{eqb, ltb}
 use lib.ListN.{length}
 use Rattle.basis.specs.declared.Verdict.{Verdict}
 use Rattle.basis.specs.declared.Verdict.the-variants.{Passes, Refuses}
-use Rattle.basis.specs.First.{first}
 use Rattle.basis.specs.Answers.{firstRefusal, passes}
 use Rattle.basis.proofs.Answers.{passed-at-all, passed-append, each-passes}
 use Rattle.basis.proofs.Bools.{clash, and-true, or-false}
 use Rattle.fields.specs.Fields.{Field}
 use Rattle.meaning.specs.declared.Part.{Part}
 use Rattle.meaning.specs.declared.Found.{Found}
-use Rattle.meaning.specs.Register.{sourceCount, sourceEntry, nameLengthIn, namePlace, lengthTest, headerTests, sourceAt, misplaced, unsound, wrongSource, sourceTest, restTest, sourcesOf, repeatTest, registerTests}
+use Rattle.meaning.specs.Register.{sourceCount, sourceEntry, namePlace, lengthTest, headerTests, sourceAt, misplaced, unsound, wrongSource, sourceTest, restTest, sourcesOf, repeatTest, registerTests}
 use Rattle.meaning.specs.Calls.{accepted, hasNumber, indexOf, holds, nameAt, found, inRegister, foundOfTwo}
 use Rattle.meaning.proofs.Sources.{Placed, placed}
 use Rattle.registers.specs.declared.Sought.{Sought}

@@ -1,0 +1,17 @@
+use borrow.Author.Needs.{needs}
+use Rattle.registers.proofs.header.Laws.{hearing}
+use Rattle.registers.proofs.header.test_counts.Statement.{statement}
+use Rattle.registers.proofs.header.test_counts.Tie as tie
+
+pub test-counts-spec : {M : Type 1} → statement M
+test-counts-spec =
+    tie.close
+    (tie.spec
+    (search needs)
+    (search needs)
+    (search needs)
+    (search needs)
+    (search needs)
+    (search needs)
+    (search needs)
+    (λ c. search hearing))

@@ -1,0 +1,18 @@
+use borrow.Author.Needs.{needs}
+use Rattle.registers.proofs.header.Laws.{hearing}
+use Rattle.registers.proofs.header.test_header.Statement.{statement}
+use Rattle.registers.proofs.header.test_header.Tie as tie
+
+pub test-header-spec : {M : Type 1} → statement M
+test-header-spec =
+    tie.close
+    (tie.spec
+    (search needs)
+    (search needs)
+    (search needs)
+    (search needs)
+    (search needs)
+    (search needs)
+    (search needs)
+    (search needs)
+    (λ c. search hearing))

@@ -1,0 +1,103 @@
+-- An entry of the register: its fields, where it has to begin, and what makes it wrong. Assumes nothing.
+use mathlib.Core.Bool.{Bool, true, false, not, _||_}
+use mathlib.Core.List.{List}
+use mathlib.Core.Path.{_≡_, refl, sym, _∙_}
+use Prim.Native.Nat.{ℕ, _+_, _*_, _^_, _≤_, _<_}
+use native.Mathlib.Numerals.{add-one}
+use native.Mathlib.Omega.{arith}
+use borrow.Author.Needs.{needs}
+use lib.Dec.{eqb, ltb}
+use lib.ListN.{length, getD, take, drop, length-map, length-drop, drop-of-length-le}
+use lib.Seq.{drop-cons, length-take-le}
+use Rattle.basis.specs.Lists.{any}
+use Rattle.basis.specs.Answers.{Shows}
+use Rattle.basis.proofs.Lists.{length-countUp}
+use Rattle.basis.proofs.Rows.{numberAt-drop}
+use Rattle.fields.specs.Fields.{Field}
+use Rattle.meaning.specs.Methods.{listed, within}
+use Rattle.meaning.specs.Register.{sourceEntry, nameLengthIn, namePlace, sourceAt, lineStart, nameStart, misplaced, badNameByte, unsound, wrongSource}
+use Rattle.meaning.proofs.Sources.{placed}
+use Rattle.registers.specs.Layout.{HasEntry, HasName, Begins}
+
+pub field-in : {k n : ℕ} {b : List ℕ} (i at : ℕ) → Field k b (32 + 16 * i + at) n → Field k (sourceEntry b i) at n
+field-in {k} {b = b} i at f = record { is = f .is ∙ sym (numberAt-drop k b (32 + 16 * i) at); small = f .small }
+
+module _ (b : List ℕ) (i : ℕ) where
+  pub line-end : {first count : ℕ} → Field 2 (sourceEntry b i) 8 first → Field 2 (sourceEntry b i) 6 count → first + count ≡ lineStart b (i + 1)
+  unfolding lineStart
+  line-end f c = rw (add-one i, f .is, c .is)
+
+  pub name-end : {offset count : ℕ} → Field 4 (sourceEntry b i) 12 offset → Field 2 (sourceEntry b i) 10 count → offset + count ≡ nameStart b (i + 1)
+  unfolding nameStart
+  name-end f c = rw (add-one i, f .is, c .is)
+
+  pub misplaced-is : {m t first offset line byte lines bytes : ℕ} → Begins b i line byte → Field 2 b 10 m → Field 4 b 12 t
+      → Field 2 (sourceEntry b i) 8 first → Field 4 (sourceEntry b i) 12 offset → lines ≡ lineStart b (i + 1) → bytes ≡ nameStart b (i + 1)
+      → (not (eqb first line) || not (eqb offset byte) || ltb m lines || ltb t bytes) ≡ misplaced b i
+  unfolding misplaced lineStart nameStart
+  misplaced-is g m t f o l n =
+      let l′ = rw (add-one i) at l in
+      let n′ = rw (add-one i) at n in
+      rw (g .atLine, g .atByte, m .is, t .is, f .is, o .is, l′, n′)
+
+  -- what an entry that is not misplaced says of its name
+  pub has-name : {found : Bool} → HasEntry b i → found ≡ misplaced b i → found ≡ false → HasName b i
+  has-name h e f = record { entry = h; within = omega (arith, placed b i (sym e ∙ f) .names, h .head .whole) }
+
+  pub misstated-is : {number method parameter lines size : ℕ} {pair : Bool} → HasName b i → Field 4 (sourceEntry b i) 0 number
+      → Field 1 (sourceEntry b i) 4 method → Field 1 (sourceEntry b i) 5 parameter → pair ≡ listed method parameter
+      → Field 2 (sourceEntry b i) 6 lines → Field 2 (sourceEntry b i) 10 size
+      → (eqb number 0 || not pair || eqb lines 0 || not (within 1 64 size) || any badNameByte (sourceAt b i .name)) ≡ unsound (sourceAt b i)
+  unfolding unsound sourceAt
+  misstated-is h n k p e l s =
+      let r = sourceEntry b i in
+      let name : length (take (nameLengthIn r) (drop (namePlace b i) b)) ≡ nameLengthIn r =
+      length-take-le (nameLengthIn r) (drop (namePlace b i) b) (rw length-drop (omega (arith, h .within))) in
+      rw (n .is, e, k .is, p .is, l .is, s .is, name, length-map, length-countUp)
+
+  -- the part at its place is the source's name
+  pub name-is : {A : Type 0} {base : A} {from start size : ℕ} {held : List ℕ} {place : A × ℕ} {bad : Bool} → (start ≡ namePlace b i) × (start < 2 ^ 40)
+      → Field 2 (sourceEntry b i) 10 size → Shows b base from start size held place → bad ≡ any badNameByte held → bad ≡ any badNameByte (sourceAt b i .name)
+  unfolding sourceAt
+  name-is p f s e = e ∙ rw (s .holds, p .0, f .is)
+
+-- the bytes passed are good, and those that are left decide
+pub record Looked (name : List ℕ) (i : ℕ) : Type 0 where
+  pub low : i ≤ length name
+  pub rest : any badNameByte name ≡ any badNameByte (drop i name)
+
+pub look-none : {name : List ℕ} → Looked name 0
+look-none = record { low = omega arith; rest = refl }
+
+module _ {name : List ℕ} {i : ℕ} (k : Looked name i) where
+  next : i < length name → any badNameByte name ≡ badNameByte (getD name i 0) || any badNameByte (drop (i + 1) name)
+  unfolding any
+  next h = k .rest ∙ rw (drop-cons name i 0 h, add-one i)
+
+  pub look-bad : i < length name → badNameByte (getD name i 0) ≡ true → true ≡ any badNameByte name
+  look-bad h e = sym (next h ∙ rw e)
+
+  pub look-more : i < length name → badNameByte (getD name i 0) ≡ false → Looked name (i + 1)
+  look-more h e = record { low = omega arith; rest = next h ∙ rw e }
+
+  pub look-all : length name ≤ i → false ≡ any badNameByte name
+  unfolding any
+  look-all h = sym (k .rest ∙ rw (drop-of-length-le name h))
+
+-- an entry is wrong where it is misplaced, misstated, or has a bad name
+module _ (b : List ℕ) (i : ℕ) {place : Bool} (p : place ≡ misplaced b i) where
+  pub wrong-misplaced : place ≡ true → true ≡ wrongSource b i
+  unfolding wrongSource
+  wrong-misplaced e = rw (← p, e)
+
+  module _ {stated : Bool} (q : place ≡ false) (s : (stated || any badNameByte (sourceAt b i .name)) ≡ unsound (sourceAt b i)) where
+    pub wrong-misstated : stated ≡ true → true ≡ wrongSource b i
+    unfolding wrongSource
+    wrong-misstated e = rw (← p, q, ← s, e)
+
+    pub wrong-named : {bad : Bool} → stated ≡ false → bad ≡ any badNameByte (sourceAt b i .name) → bad ≡ wrongSource b i
+    unfolding wrongSource
+    wrong-named e f = rw (← p, q, ← s, e) f
+
+pub ruleset entries =
+    (needs, field-in, line-end, name-end, misplaced-is, has-name, misstated-is, name-is, look-none, look-bad, look-more, look-all, wrong-misplaced, wrong-misstated, wrong-named)

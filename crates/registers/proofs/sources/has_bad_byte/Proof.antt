@@ -1,0 +1,25 @@
+use Prim.Native.Nat.{_-_}
+use lib.ListN.{length}
+use Rattle.registers.proofs.sources.Entries.{Looked, entries}
+use Rattle.registers.proofs.sources.has_bad_byte.Statement.{statement}
+use Rattle.registers.proofs.sources.has_bad_byte.Tie as tie
+
+abbrev Inv-loop : tie.InvT-loop
+Inv-loop name i₀ i = Looked name i
+
+abbrev μ-loop : tie.MeasureT-loop
+μ-loop name i₀ i = length name - i
+
+pub has-bad-byte-spec : {M : Type 1} → statement M
+has-bad-byte-spec =
+    tie.close
+    (tie.spec
+    Inv-loop
+    μ-loop
+    (λ c. search entries)
+    (λ c. search entries)
+    (λ c. search entries)
+    (λ c. search entries)
+    (λ c. search entries)
+    (λ c. search entries)
+    (λ c. search entries))

@@ -1,0 +1,14 @@
+use borrow.Author.Needs.{needs}
+use Rattle.registers.proofs.sources.Entries.{entries}
+use Rattle.registers.proofs.sources.has_bad_name.Statement.{statement}
+use Rattle.registers.proofs.sources.has_bad_name.Tie as tie
+
+pub has-bad-name-spec : {M : Type 1} → statement M
+has-bad-name-spec =
+    tie.close
+    (tie.spec
+    (search needs)
+    (search needs)
+    (search needs)
+    (search needs)
+    (λ c. search entries))

@@ -1,0 +1,15 @@
+use borrow.Author.Needs.{needs}
+use Rattle.registers.proofs.sources.Entries.{entries}
+use Rattle.registers.proofs.sources.is_wrong.Statement.{statement}
+use Rattle.registers.proofs.sources.is_wrong.Tie as tie
+
+pub is-wrong-spec : {M : Type 1} → statement M
+is-wrong-spec =
+    tie.close
+    (tie.spec
+    (search needs)
+    (λ c. search entries)
+    (λ c κs. search entries)
+    (λ c. search entries)
+    (λ c κs. search entries)
+    (λ c. search entries))

@@ -1,0 +1,14 @@
+use native.Mathlib.Nat.{add-sub-cancel-left}
+use borrow.Author.Needs.{needs}
+use Rattle.registers.proofs.sources.part.Statement.{statement}
+use Rattle.registers.proofs.sources.part.Tie as tie
+
+pub part-spec : {M : Type 1} → statement M
+part-spec =
+    tie.close
+    (tie.spec
+    (search needs)
+    (search needs)
+    (search needs)
+    (search needs)
+    (λ c. record { holds = rw add-sub-cancel-left; stands = search needs }))

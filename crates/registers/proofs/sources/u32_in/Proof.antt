@@ -1,0 +1,14 @@
+use borrow.Author.Needs.{needs}
+use Rattle.registers.proofs.sources.Entries.{entries}
+use Rattle.registers.proofs.sources.u32_in.Statement.{statement}
+use Rattle.registers.proofs.sources.u32_in.Tie as tie
+
+pub u32-in-spec : {M : Type 1} → statement M
+u32-in-spec =
+    tie.close
+    (tie.spec
+    (search needs)
+    (search needs)
+    (search needs)
+    (search needs)
+    (λ c. search entries))
