@@ -16,15 +16,16 @@ use Rattle.basis.proofs.Bools.{clash, and-true, or-false}
 use Rattle.fields.specs.Fields.{Field}
 use Rattle.meaning.specs.declared.Part.{Part}
 use Rattle.meaning.specs.declared.Found.{Found}
-use Rattle.meaning.specs.Register.{sourceCount, sourceEntry, namePlace, lengthTest, headerTests, sourceAt, misplaced, unsound, wrongSource, sourceTest, restTest, sourcesOf, repeatTest, registerTests}
+use Rattle.meaning.specs.Register.{sourceCount, sourceEntry, namePlace, lengthTest, headerTests, sourceAt, misplaced, unsound, wrongSource, sourceTest, restTest, registerTests}
 use Rattle.meaning.specs.Calls.{accepted, hasNumber, indexOf, holds, nameAt, found, inRegister, foundOfTwo}
 use Rattle.meaning.proofs.Sources.{Placed, placed}
 use Rattle.registers.specs.declared.Sought.{Sought}
-use Rattle.registers.specs.Layout.{layoutTests, Headed, HasEntry}
+use Rattle.registers.specs.Layout.{layoutTests, Headed}
 use Rattle.registers.specs.Keys.{Tested}
 use Rattle.registers.specs.Lookups.{Seeks}
+use Rattle.registers.proofs.sources.Entries.{has-entry}
 use Rattle.registers.proofs.Scans.{Scanning, scan-none, scan-found, scan-more, scan-all}
-use Rattle.registers.proofs.Tested.{in-two, layout-headed}
+use Rattle.registers.proofs.Tested.{passed-layout, layout-headed}
 
 pub accepted-is : {b keys left : List ℕ} {v : Verdict} {ok : Bool} → Tested b keys v left → ok ≡ passes v → ok ≡ accepted b
 unfolding accepted
@@ -34,9 +35,7 @@ accepted-is t e = e ∙ ap passes (t .verdict)
 module _ (b : List ℕ) (e : accepted b ≡ true) where
   layout-passes : firstRefusal (layoutTests b) ≡ Passes
   unfolding accepted
-  layout-passes =
-      let f : firstRefusal (registerTests b) ≡ Passes = by (firstRefusal (registerTests b)) e in
-      passed-append (layoutTests b) (repeatTest (sourcesOf b) ∷ []) (rw (in-two b) at f) .0
+  layout-passes = passed-layout b (by (firstRefusal (registerTests b)) e)
     where
       by : (v : Verdict) → passes v ≡ true → v ≡ Passes
       by Passes f = refl
@@ -68,9 +67,6 @@ pub find-none : {b : List ℕ} {number n : ℕ} → Headed b → Field 2 b 8 n �
 find-none h f = record { head = h; all = f .is; scanning = scan-none }
 
 module _ {b : List ℕ} {number n i : ℕ} (f : Finding b number n i) where
-  pub find-entry : i < n → HasEntry b i
-  find-entry h = record { head = f .head; below = omega (arith, f .all) }
-
   has : {x : ℕ} {hit : Bool} → Field 4 (sourceEntry b i) 0 x → eqb x number ≡ hit → hasNumber b number i ≡ hit
   unfolding hasNumber
   has g e = rw (g .is) at e
@@ -86,13 +82,10 @@ module _ {b : List ℕ} {number n i : ℕ} (f : Finding b number n i) where
   unfolding indexOf
   find-all h = rw (← f .all) (scan-all (f .scanning) h)
 
-pub ruleset finding = (needs, find-none, find-entry, find-hit, find-more, find-all)
+pub ruleset finding = (needs, has-entry, find-none, find-hit, find-more, find-all)
 
 abbrev nothing : Part
 nothing = record { offset = 0; length = 0 }
-
-pub sought-entry : {b : List ℕ} {n i : ℕ} → accepted b ≡ true → Field 2 b 8 n → i < n → HasEntry b i
-sought-entry {b} e f h = record { head = accepted-headed b e; below = omega (arith, f .is) }
 
 -- what is sought in a register that is accepted, and in one that is not
 module _ {b : List ℕ} {number n i : ℕ} (e : accepted b ≡ true) (f : Field 2 b 8 n) (g : i ≡ indexOf b number) where
@@ -118,7 +111,7 @@ unfolding nameAt
 name-there b i p f = rw (p .0, f .is)
 
 pub ruleset seeking =
-    (needs, accepted-is, accepted-by, accepted-headed, accepted-counts, sought-entry, sought-held, sought-absent, sought-refused, name-there)
+    (needs, accepted-is, accepted-by, accepted-headed, accepted-counts, has-entry, sought-held, sought-absent, sought-refused, name-there)
 
 -- a name found stands within the register
 found-within : (b : List ℕ) (number : ℕ) → found b number .offset + found b number .length ≤ length b
@@ -196,9 +189,9 @@ module _ {plant contractor : List ℕ} {number : ℕ} {s t : Sought} (p : Seeks 
   unfolding foundOfTwo
   found-there f g e = e ∙ rw (q .place, sym alone ∙ f, sym other ∙ g)
 
-  pub found-nowhere : both && s .held && not (t .held) ≡ false → both && not (s .held) && t .held ≡ false
-      → _≡_ {A = Found} (record { which = 1; offset = 0; length = 0 }) (foundOfTwo plant contractor number)
+  pub found-nowhere : {r : Found} → both && s .held && not (t .held) ≡ false → both && not (s .held) && t .held ≡ false → r ≡ inRegister 1 nothing
+      → r ≡ foundOfTwo plant contractor number
   unfolding foundOfTwo
-  found-nowhere f g = rw (sym alone ∙ f, sym other ∙ g)
+  found-nowhere f g e = e ∙ rw (sym alone ∙ f, sym other ∙ g)
 
 pub ruleset choosing = (needs, found-here, found-there, found-nowhere)

@@ -12,11 +12,11 @@ ghost use Rattle.registers.specs.Layout.{Counted};
 use basis::Verdict;
 
 // Where the sources begin, and the lengths of a source entry and of a line.
-pub const SOURCES: u64 = 32;
+pub const SOURCES: usize = 32;
 
-pub const SOURCE: u64 = 16;
+pub const SOURCE: usize = 16;
 
-pub const LINE: u64 = 20;
+pub const LINE: usize = 20;
 
 // As many sources as a register may have.
 pub const MOST: u64 = 512;
@@ -32,24 +32,24 @@ pub fn refuse_if(wrong: bool, number: u32, place: u64, later: Verdict) -> Verdic
 }
 
 // A header field of 4 bytes that has to be the number due there.
-fn test_field(register: &[u8], at: usize, due: u64, later: Verdict) -> Verdict
+fn test_field(register: &[u8], at: usize, due: usize, later: Verdict) -> Verdict
     requires { ⌜ at + 4 ≤ length (now register) ⌝ }
     ensures { λ r. ⌜ r ≡ cond (not (eqb (numberAt 4 (now (register .entry)) at) due)) (Refuses 2 at) later ⌝ }
 {
-    let stated = fields::u32_at(register, at);
+    let stated = fields::u32_at(register, at) as usize;
     refuse_if(stated != due, 2, at as u64, later)
 }
 
 // The offsets and the whole length, which go by n sources, m lines and t name bytes.
-fn test_offsets(register: &[u8], n: u64, m: u64, t: u64) -> Verdict
+fn test_offsets(register: &[u8], n: usize, m: usize, t: usize) -> Verdict
     requires { ⌜ Counted (now register) n m t ⌝ }
     ensures { λ r. ⌜ r ≡ firstRefusal (drop 6 (headerTests (now (register .entry)))) ⌝ }
 {
     let lines = SOURCES + SOURCE * n;
     let names = lines + LINE * m;
     let whole = names + t;
-    let stated = fields::u32_at(register, 28);
-    let lent = register.len() as u64;
+    let stated = fields::u32_at(register, 28) as usize;
+    let lent = register.len();
     let fourth = refuse_if((stated != whole) | (lent != whole), 2, 28, Verdict::Passes);
     let third = test_field(register, 24, names, fourth);
     let second = test_field(register, 20, lines, third);
@@ -63,7 +63,7 @@ fn test_counts(register: &[u8]) -> Verdict
     let n = fields::u16_at(register, 8);
     let m = fields::u16_at(register, 10);
     let t = fields::u32_at(register, 12);
-    let fourth = test_offsets(register, n, m, t);
+    let fourth = test_offsets(register, n as usize, m as usize, t as usize);
     let third = refuse_if(16384 < t, 2, 12, fourth);
     let second = refuse_if(1024 < m, 2, 10, third);
     refuse_if(MOST < n, 2, 8, second)

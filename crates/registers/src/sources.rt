@@ -22,21 +22,21 @@ fn u8_in(register: &[u8], i: usize, at: usize) -> u64
     requires { ⌜ HasEntry (now register) i × (at + 1 ≤ sourceLength) ⌝ }
     ensures { λ r. ⌜ Field 1 (sourceEntry (now (register .entry)) i) at r ⌝ }
 {
-    fields::u8_at(register, 32 + 16 * i + at)
+    fields::u8_at(register, SOURCES + SOURCE * i + at)
 }
 
 pub fn u16_in(register: &[u8], i: usize, at: usize) -> u64
     requires { ⌜ HasEntry (now register) i × (at + 2 ≤ sourceLength) ⌝ }
     ensures { λ r. ⌜ Field 2 (sourceEntry (now (register .entry)) i) at r ⌝ }
 {
-    fields::u16_at(register, 32 + 16 * i + at)
+    fields::u16_at(register, SOURCES + SOURCE * i + at)
 }
 
 pub fn u32_in(register: &[u8], i: usize, at: usize) -> u64
     requires { ⌜ HasEntry (now register) i × (at + 4 ≤ sourceLength) ⌝ }
     ensures { λ r. ⌜ Field 4 (sourceEntry (now (register .entry)) i) at r ⌝ }
 {
-    fields::u32_at(register, 32 + 16 * i + at)
+    fields::u32_at(register, SOURCES + SOURCE * i + at)
 }
 
 // Where the lines of entry i end, and those of the next begin.
@@ -108,23 +108,22 @@ fn has_bad_byte(name: &[u8]) -> bool
 }
 
 // Where the name of entry i begins.
-pub fn name_start(register: &[u8], i: usize) -> u64
+pub fn name_start(register: &[u8], i: usize) -> usize
     requires { ⌜ HasEntry (now register) i ⌝ }
     ensures { λ r. ⌜ (r ≡ namePlace (now (register .entry)) i) × (r < 2 ^ 40) ⌝ }
 {
-    let n = fields::u16_at(register, 8);
-    let m = fields::u16_at(register, 10);
-    SOURCES + SOURCE * n + LINE * m + u32_in(register, i, 12)
+    let n = fields::u16_at(register, 8) as usize;
+    let m = fields::u16_at(register, 10) as usize;
+    SOURCES + SOURCE * n + LINE * m + u32_in(register, i, 12) as usize
 }
 
 // The part of bytes lent that begins at an offset, where it stands.
-pub fn part(bytes: &[u8], offset: u64, size: u64) -> &[u8]
+pub fn part(bytes: &[u8], offset: usize, size: usize) -> &[u8]
     requires { ⌜ offset + size ≤ length (now bytes) ⌝ }
     ensures { λ r. ⌜ IsPart (bytes .entry) offset size r ⌝ }
 {
-    let at = offset as usize;
-    let end = at + size as usize;
-    &bytes[at..end]
+    let end = offset + size;
+    &bytes[offset..end]
 }
 
 fn has_bad_name(register: &[u8], i: usize) -> bool
@@ -132,7 +131,7 @@ fn has_bad_name(register: &[u8], i: usize) -> bool
     ensures { λ r. ⌜ r ≡ any badNameByte (sourceAt (now (register .entry)) i .name) ⌝ }
 {
     let start = name_start(register, i);
-    let size = u16_in(register, i, 10);
+    let size = u16_in(register, i, 10) as usize;
     has_bad_byte(part(register, start, size))
 }
 

@@ -13,4 +13,5 @@ name-place-of-two-spec =
     (λ c. search choosing)
     (search needs)
     (λ c. search choosing)
+    (search needs)
     (λ c. search choosing))

@@ -15,9 +15,13 @@ use Rattle.basis.proofs.Lists.{length-countUp}
 use Rattle.basis.proofs.Rows.{numberAt-drop}
 use Rattle.fields.specs.Fields.{Field}
 use Rattle.meaning.specs.Methods.{listed, within}
-use Rattle.meaning.specs.Register.{sourceEntry, nameLengthIn, namePlace, sourceAt, lineStart, nameStart, misplaced, badNameByte, unsound, wrongSource}
+use Rattle.meaning.specs.Register.{sourceCount, sourceEntry, nameLengthIn, namePlace, sourceAt, lineStart, nameStart, misplaced, badNameByte, unsound, wrongSource}
 use Rattle.meaning.proofs.Sources.{placed}
-use Rattle.registers.specs.Layout.{HasEntry, HasName, Begins}
+use Rattle.registers.specs.Layout.{Headed, HasEntry, HasName, Begins}
+
+-- of n sources, each below n has its entry
+pub has-entry : {b : List ℕ} {n i : ℕ} → Headed b → n ≡ sourceCount b → i < n → HasEntry b i
+has-entry h e l = record { head = h; below = omega arith }
 
 pub field-in : {k n : ℕ} {b : List ℕ} (i at : ℕ) → Field k b (32 + 16 * i + at) n → Field k (sourceEntry b i) at n
 field-in {k} {b = b} i at f = record { is = f .is ∙ sym (numberAt-drop k b (32 + 16 * i) at); small = f .small }

@@ -13,8 +13,9 @@ use Rattle.basis.specs.First.{first}
 use Rattle.basis.specs.Answers.{refuseAtFirst, firstRefusal}
 use Rattle.fields.specs.Fields.{Field}
 use Rattle.meaning.specs.Register.{sourceCount, lineStart, nameStart, wrongSource, sourceTest, restTest}
-use Rattle.registers.specs.Layout.{Headed, HasEntry, Begins}
+use Rattle.registers.specs.Layout.{Headed, Begins}
 use Rattle.registers.proofs.header.Laws.{heard}
+use Rattle.registers.proofs.sources.Entries.{has-entry}
 use Rattle.registers.proofs.Scans.{Scanning, scan-none, scan-found, scan-more, scan-all}
 
 -- the entries before i are right, and the next has to begin at a line and a name byte
@@ -32,9 +33,6 @@ unfolding lineStart nameStart
 passing-none h f = record { head = h; all = f .is; scanning = scan-none; begins = record { atLine = refl; atByte = refl } }
 
 module _ {b : List ℕ} {n i line byte : ℕ} (p : Passing b n i line byte) where
-  pub passing-entry : i < n → HasEntry b i
-  passing-entry h = record { head = p .head; below = omega (arith, p .all) }
-
   pub passing-wrong : {wrong : Bool} → i < n → wrong ≡ wrongSource b i → wrong ≡ true → Refuses 3 i ≡ overSources b
   unfolding sourceTest refuseAtFirst firstRefusal
   passing-wrong h e t =
@@ -54,4 +52,4 @@ module _ {b : List ℕ} {n i line byte : ℕ} (p : Passing b n i line byte) wher
       let l : n ≡ first (wrongSource b) n = rw k at (scan-all (p .scanning) h) in
       e ∙ rw (p .begins .atLine, p .begins .atByte, k, f .is, g .is, ← p .all, ← l, le-ltb n n (omega arith), heard, heard)
 
-pub ruleset passing = (needs, passing-none, passing-entry, passing-wrong, passing-more, passing-all)
+pub ruleset passing = (needs, has-entry, passing-none, passing-wrong, passing-more, passing-all)
