@@ -58,4 +58,5 @@ module _ {content share factor : ℕ} (h : (content ≤ largestContent) × (shar
         gas = omega arith;
         content = h .0;
         factor = share-fits;
+        only = λ e. refl;
       }
