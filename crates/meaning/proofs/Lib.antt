@@ -2,3 +2,4 @@ pub mod Opened
 pub mod Computed
 pub mod Laws
 pub mod Sources
+pub mod Reports

@@ -1,0 +1,77 @@
+-- An entry as it is read at its place, and what is wrong with it. Assumes nothing.
+use mathlib.Core.Bool.{Bool, true, false, not, _||_}
+use mathlib.Core.List.{List, map}
+use mathlib.Core.Path.{_≡_, refl, sym, ap, _∙_}
+use Prim.Native.Nat.{ℕ, _+_, _*_, _≤_, _<_}
+use native.Mathlib.Nat.{add-assoc, add-zero}
+use native.Mathlib.Omega.{arith}
+use borrow.Author.Tests.{lt-ltb, le-ltb}
+use lib.Dec.{eqb, ltb, leb}
+use lib.ListN.{length, drop}
+use Rattle.basis.specs.Bytes.{numberAt}
+use Rattle.basis.specs.Lists.{countUp}
+use Rattle.basis.proofs.Bools.{or-true}
+use Rattle.basis.proofs.Rows.{numberAt-drop}
+use Rattle.meaning.specs.Methods.{within}
+use Rattle.meaning.specs.Masses.{gasCount, equivalent, limit}
+use Rattle.meaning.specs.Report.{entriesAt, entryLength, entryAt, figureIn, entryIn, numberBefore, wrongEntry}
+use Rattle.fields.specs.Fields.{Field}
+use Rattle.exact.specs.declared.Weighed.{Weighed}
+use Rattle.exact.specs.declared.Weighed.the-variants.{Within, Above}
+use Rattle.exact.specs.Equivalents.{withinLimit}
+use Rattle.exact.proofs.Equivalents.{within-exactly, above-exactly}
+use Rattle.reports.specs.Figures.{figureAt, figuresAt}
+use Rattle.reports.specs.Stated.{wrongEquivalent}
+
+or-none : (b : Bool) → b || false ≡ b
+or-none true = refl
+or-none false = refl
+
+-- figures behind a place are those of what stands from there on
+pub figures-drop : (count : ℕ) (b : List ℕ) (at p : ℕ) → figuresAt count b (at + p) ≡ figuresAt count (drop at b) p
+unfolding figuresAt
+figures-drop count b at p =
+    let e : (k : ℕ) → figureAt b (at + p) k ≡ figureAt (drop at b) p k = λ k. rw (numberAt-drop 8 b at (p + 8 * k), add-assoc at p (8 * k)) in
+    ap (λ (f : ℕ → ℕ). map f (countUp 0 count)) (λ i k. e k i)
+
+pub masses-read : (b : List ℕ) (at : ℕ) {ms : List ℕ} → ms ≡ figuresAt gasCount b (at + 8) → ms ≡ entryIn (drop at b) .masses
+unfolding figuresAt entryIn
+masses-read b at e = e ∙ figures-drop gasCount b at 8
+
+field-drop : {k : ℕ} {b : List ℕ} (at p : ℕ) {n : ℕ} → Field k b (at + p) n → n ≡ numberAt k (drop at b) p
+field-drop {k} {b} at p f = f .is ∙ sym (numberAt-drop k b at p)
+
+module _ (b : List ℕ) (at : ℕ) {ms : List ℕ} {w : Weighed} (m : ms ≡ entryIn (drop at b) .masses) (v : w ≡ withinLimit ms) where
+  -- above the limit it is wrong, whatever is stated
+  pub wrong-above : w ≡ Above → true ≡ wrongEquivalent (drop at b)
+  unfolding wrongEquivalent
+  wrong-above e =
+      let l : limit < equivalent ms = above-exactly ms .0 (sym v ∙ e) in
+      rw (← m, lt-ltb limit (equivalent ms) l) (sym (or-true (not (eqb (figureIn (drop at b) gasCount) (equivalent ms)))))
+
+  -- within it, the stated one decides
+  pub wrong-stated : {right stated : ℕ} → w ≡ Within right → Field 8 b (at + 8 + 8 * gasCount) stated → not (eqb stated right) ≡ wrongEquivalent (drop at b)
+  unfolding wrongEquivalent
+  wrong-stated {right} {stated} e f =
+      let h = within-exactly ms right .0 (sym v ∙ e) in
+      let s : stated ≡ figureIn (drop at b) gasCount = field-drop at (8 + 8 * gasCount) (rw add-assoc at f) in
+      rw (← m, ← s, ← h .1, le-ltb limit right (omega (arith, h .0, h .1))) (sym (or-none (not (eqb stated right))))
+
+or-assoc : (a b c : Bool) → (a || b) || c ≡ a || (b || c)
+or-assoc true b c = refl
+or-assoc false b c = refl
+
+-- entry i, by the fields that were read and by its equivalent
+pub entry-judged : (b : List ℕ) (i : ℕ) {before number method zeros : ℕ} {unequal : Bool} → before ≡ numberBefore b i
+    → Field 4 b (entriesAt + entryLength * i) number → Field 1 b (entriesAt + entryLength * i + 4) method → Field 3 b (entriesAt + entryLength * i + 5) zeros
+    → unequal ≡ wrongEquivalent (drop (entriesAt + entryLength * i) b)
+    → leb number before || not (within 1 6 method) || not (eqb zeros 0) || unequal ≡ wrongEntry b i
+unfolding wrongEntry wrongEquivalent entryIn
+entry-judged b i {before} {number} {method} {zeros} e n m z u =
+    let r = entryAt b i in
+    let at = entriesAt + entryLength * i in
+    let p : numberAt 4 r 0 ≡ number = sym (field-drop at 0 (rw (add-zero at) n)) in
+    let q : numberAt 1 r 4 ≡ method = sym (field-drop at 4 m) in
+    let s : numberAt 3 r 5 ≡ zeros = sym (field-drop at 5 z) in
+    rw (u, p, q, s, ← e)
+    (sym (or-assoc (leb number before || not (within 1 6 method) || not (eqb zeros 0)) (not (eqb (figureIn r gasCount) (equivalent (entryIn r .masses)))) (ltb limit (equivalent (entryIn r .masses)))))

@@ -1,0 +1,18 @@
+use borrow.Author.Needs.{needs}
+use Rattle.reports.proofs.Entries.{entry-judged}
+use Rattle.reports.proofs.is_entry_wrong.Statement.{statement}
+use Rattle.reports.proofs.is_entry_wrong.Tie as tie
+
+pub is-entry-wrong-spec : {M : Type 1} → statement M
+is-entry-wrong-spec =
+    tie.close
+    (tie.spec
+    (search needs)
+    (search needs)
+    (search needs)
+    (search needs)
+    (search needs)
+    (search needs)
+    (search needs)
+    (search needs)
+    (λ c. search (needs, entry-judged)))

@@ -1,0 +1,13 @@
+use borrow.Author.Needs.{needs}
+use Rattle.reports.proofs.Entries.{masses-read}
+use Rattle.reports.proofs.masses_at.Statement.{statement}
+use Rattle.reports.proofs.masses_at.Tie as tie
+
+pub masses-at-spec : {M : Type 1} → statement M
+masses-at-spec =
+    tie.close
+    (tie.spec
+    (search needs)
+    (search needs)
+    (search needs)
+    (λ c. search (needs, masses-read)))

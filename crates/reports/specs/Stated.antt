@@ -1,0 +1,25 @@
+-- The parts of a report as their numbers are stated, and what is wrong with an entry's equivalent. Assumes nothing.
+use mathlib.Core.Bool.{Bool, not, _||_}
+use mathlib.Core.List.{List, [], _∷_, _++_}
+use Prim.Native.Nat.{ℕ}
+use lib.Dec.{eqb, ltb}
+use lib.ListN.{replicate}
+use Rattle.basis.specs.Bytes.{packed}
+use Rattle.meaning.specs.Masses.{gasCount, equivalent, limit}
+use Rattle.meaning.specs.Report.{figureCount, reportTag, reportLayout, entriesAt, reportLength, figureIn, entryIn}
+
+-- an entry of a number, a method and figures
+unfoldable pub statedEntry : ℕ → ℕ → List ℕ → List ℕ
+statedEntry number method figures = packed (4 ∷ 1 ∷ 3 ∷ []) (number ∷ method ∷ 0 ∷ []) ++ packed (replicate figureCount 8) figures
+
+-- the header before the totals, of a year and a count
+unfoldable pub statedFront : ℕ → ℕ → List ℕ
+statedFront year n = reportTag ++ packed (2 ∷ 2 ∷ 2 ∷ 2 ∷ 4 ∷ 4 ∷ 4 ∷ []) (reportLayout ∷ year ∷ n ∷ 0 ∷ entriesAt ∷ reportLength n ∷ 0 ∷ [])
+
+-- the header of a year, a count and totals
+unfoldable pub statedHeader : ℕ → ℕ → List ℕ → List ℕ
+statedHeader year n totals = statedFront year n ++ packed (replicate figureCount 8) totals
+
+-- "each equivalent right and at most 10^15": an entry's is not
+unfoldable pub wrongEquivalent : List ℕ → Bool
+wrongEquivalent r = not (eqb (figureIn r gasCount) (equivalent (entryIn r .masses))) || ltb limit (equivalent (entryIn r .masses))

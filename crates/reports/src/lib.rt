@@ -1,0 +1,85 @@
+// Document 01, "The report": whether a report is well-formed, and the writing of its header and of its entries.
+ghost use mathlib.Core.Bool.{_&&_, not};
+ghost use mathlib.Core.Path.{_≡_};
+ghost use Prim.Native.Nat.{_+_, _*_, _≤_, _<_};
+ghost use lib.ListN.{length, drop};
+ghost use Rattle.basis.specs.Bytes.{Written, packed};
+ghost use Rattle.basis.specs.Lists.{any, countUp};
+ghost use Rattle.meaning.specs.Register.{mostSources};
+ghost use Rattle.meaning.specs.Report.{figureCount, entriesAt, entryLength, reportLength, entryAt, entryIn, entriesOf, headerRight, numberBefore, wrongEntry, wrongTotal, wellFormed};
+ghost use Rattle.meaning.specs.Report.{totals as Report·totals};
+ghost use Rattle.meaning.specs.Calls.{checked};
+ghost use Rattle.reports.specs.Figures.{figuresAt, addedAt, SumsFit};
+ghost use Rattle.reports.specs.Stated.{statedEntry, statedHeader, wrongEquivalent};
+use basis::Answer;
+use exact::GASES;
+use exact::Weighed;
+
+// The figures of an entry: a mass for each gas, and the equivalent.
+pub const FIGURES: usize = GASES + 1;
+
+pub const ENTRIES_AT: usize = 56;
+
+pub const ENTRY_LENGTH: usize = 40;
+
+// Figures of eight bytes each, as many as there is room for, from a place on.
+pub fn read_figures(s: &[u8], at: usize, to: &mut [u64])
+    requires { ⌜ at + 8 * length (now to) ≤ length (now s) ⌝ }
+    ensures { λ _. ⌜ now (to .exit) ≡ figuresAt (length (now (to .entry))) (now (s .entry)) at ⌝ }
+{
+    let mut k: usize = 0;
+    while k < to.len() {
+        to[k] = fields::u64_at(s, at + 8 * k);
+        k += 1;
+    }
+}
+
+// The figures from a place on, each added to its own sum.
+pub fn add_figures(s: &[u8], at: usize, sums: &mut [u64])
+    requires { ⌜ (at + 8 * length (now sums) ≤ length (now s)) × SumsFit (now s) at (now sums) ⌝ }
+    ensures { λ _. ⌜ now (sums .exit) ≡ addedAt (now (s .entry)) at (now (sums .entry)) ⌝ }
+{
+    let mut k: usize = 0;
+    while k < sums.len() {
+        let figure = fields::u64_at(s, at + 8 * k);
+        sums[k] = sums[k] + figure;
+        k += 1;
+    }
+}
+
+// The masses of the entry at a place.
+fn masses_at(report: &[u8], at: usize) -> [u64; GASES]
+    requires { ⌜ at + entryLength ≤ length (now report) ⌝ }
+    ensures { λ r. ⌜ r ≡ entryIn (drop at (now (report .entry))) .masses ⌝ }
+{
+    let mut masses = [0u64; GASES];
+    read_figures(report, at + 8, &mut masses);
+    masses
+}
+
+// "each equivalent right and at most 10^15": masses of a foreign report are any numbers, and nothing wraps on the way to saying no.
+fn is_equivalent_wrong(report: &[u8], at: usize) -> bool
+    requires { ⌜ at + entryLength ≤ length (now report) ⌝ }
+    ensures { λ r. ⌜ r ≡ wrongEquivalent (drop at (now (report .entry))) ⌝ }
+{
+    let masses = masses_at(report, at);
+    let weighed = exact::equivalent(masses);
+    let Weighed::Within(right) = weighed else {
+        return true;
+    };
+    let stated = fields::u64_at(report, at + 8 + 8 * GASES);
+    stated != right
+}
+
+// Whether entry i breaks a rule, where the entry before it has a number.
+fn is_entry_wrong(report: &[u8], i: usize, before: u64) -> bool
+    requires { ⌜ (reportLength (i + 1) ≤ length (now report)) × (before ≡ numberBefore (now report) i) ⌝ }
+    ensures { λ r. ⌜ r ≡ wrongEntry (now (report .entry)) i ⌝ }
+{
+    let at = ENTRIES_AT + ENTRY_LENGTH * i;
+    let number = fields::u32_at(report, at);
+    let method = fields::u8_at(report, at + 4);
+    let zeros = fields::u24_at(report, at + 5);
+    let unequal = is_equivalent_wrong(report, at);
+    (number <= before) | !((1 <= method) & (method <= 6)) | (zeros != 0) | unequal
+}
