@@ -12,7 +12,7 @@ use lib.ListN.{length, getD, take, drop, set, length-set}
 use lib.Seq.{take-all, take-suc-set, drop-set-lt, drop-drop, getD-drop, append-snoc}
 use Rattle.basis.specs.Lists.{countUp}
 use Rattle.fields.specs.Fields.{Field}
-use Rattle.reports.specs.Figures.{figureAt, figuresAt, addedAt, SumsFit}
+use Rattle.reports.specs.Figures.{figureAt, figuresAt, addedAt, Addable}
 
 -- k places of to₀ hold what f makes of their index, and the later ones what they held
 pub record Filled (f : ℕ → ℕ) (to₀ to : List ℕ) (k : ℕ) : Type 0 where
@@ -77,8 +77,8 @@ module _ {bs : List ℕ} {at : ℕ} {sums₀ sums : List ℕ} {k : ℕ} (r : Add
     adding-is : getD sums k 0 + v ≡ getD sums₀ k 0 + figureAt bs at k
     adding-is = rw (filled-now (r .filled), f .is)
 
-    pub adding-fits : (at + 8 * length sums₀ ≤ length bs) × SumsFit bs at sums₀ → Fits w64 (getD sums k 0 + v)
-    adding-fits h = record { fits = rw adding-is (h .1 k (omega (arith, r .filled .kept))) }
+    pub adding-fits : Addable bs at sums₀ → Fits w64 (getD sums k 0 + v)
+    adding-fits h = record { fits = rw adding-is (h .fit k (omega (arith, r .filled .kept))) }
 
     pub adding-more : Adding bs at sums₀ (set sums k (getD sums k 0 + v)) (k + 1)
     adding-more = record { filled = filled-more (r .filled) l adding-is }

@@ -6,10 +6,10 @@ ghost use lib.ListN.{length, drop};
 ghost use Rattle.basis.specs.Bytes.{Written, packed};
 ghost use Rattle.basis.specs.Lists.{any, countUp};
 ghost use Rattle.meaning.specs.Register.{mostSources};
-ghost use Rattle.meaning.specs.Report.{figureCount, entriesAt, entryLength, reportLength, entryAt, entryIn, entriesOf, headerRight, numberBefore, wrongEntry, wrongTotal, wellFormed};
+ghost use Rattle.meaning.specs.Report.{figureCount, entriesAt, entryLength, reportLength, entryCount, entryIn, entriesOf, headerRight, numberBefore, wrongEntry, wrongTotal, wellFormed};
 ghost use Rattle.meaning.specs.Report.{totals as Report·totals};
 ghost use Rattle.meaning.specs.Calls.{checked};
-ghost use Rattle.reports.specs.Figures.{figuresAt, addedAt, SumsFit};
+ghost use Rattle.reports.specs.Figures.{figuresAt, addedAt, Addable};
 ghost use Rattle.reports.specs.Stated.{statedEntry, statedHeader, wrongEquivalent};
 use basis::Answer;
 use exact::GASES;
@@ -36,7 +36,7 @@ pub fn read_figures(s: &[u8], at: usize, to: &mut [u64])
 
 // The figures from a place on, each added to its own sum.
 pub fn add_figures(s: &[u8], at: usize, sums: &mut [u64])
-    requires { ⌜ (at + 8 * length (now sums) ≤ length (now s)) × SumsFit (now s) at (now sums) ⌝ }
+    requires { ⌜ Addable (now s) at (now sums) ⌝ }
     ensures { λ _. ⌜ now (sums .exit) ≡ addedAt (now (s .entry)) at (now (sums .entry)) ⌝ }
 {
     let mut k: usize = 0;
@@ -82,4 +82,41 @@ fn is_entry_wrong(report: &[u8], i: usize, before: u64) -> bool
     let zeros = fields::u24_at(report, at + 5);
     let unequal = is_equivalent_wrong(report, at);
     (number <= before) | !((1 <= method) & (method <= 6)) | (zeros != 0) | unequal
+}
+
+// "totals that are the sums"
+fn are_totals_right(report: &[u8], totals: &[u64; FIGURES]) -> bool
+    requires { ⌜ (entriesAt ≤ length (now report)) × (now totals ≡ Report·totals (entriesOf (now report))) ⌝ }
+    ensures { λ r. ⌜ r ≡ not (any (wrongTotal (now (report .entry))) (countUp 0 figureCount)) ⌝ }
+{
+    let mut k: usize = 0;
+    while k < FIGURES {
+        let wrong = fields::u64_at(report, 24 + 8 * k) != totals[k];
+        if wrong {
+            return false;
+        }
+        k += 1;
+    }
+    true
+}
+
+// One pass over n entries, which tests each and adds its figures to the totals.
+fn are_entries_right(report: &[u8], n: usize) -> bool
+    requires { ⌜ (length (now report) ≡ reportLength n) × (n ≤ mostSources) × (n ≡ entryCount (now report)) ⌝ }
+    ensures { λ r. ⌜ r ≡ not (any (wrongEntry (now (report .entry))) (countUp 0 n)) && not (any (wrongTotal (now (report .entry))) (countUp 0 figureCount)) ⌝ }
+{
+    let mut totals = [0u64; FIGURES];
+    let mut before: u64 = 0;
+    let mut i: usize = 0;
+    while i < n {
+        let wrong = is_entry_wrong(report, i, before);
+        if wrong {
+            return false;
+        }
+        let at = ENTRIES_AT + ENTRY_LENGTH * i;
+        add_figures(report, at + 8, &mut totals);
+        before = fields::u32_at(report, at);
+        i += 1;
+    }
+    are_totals_right(report, &totals)
 }
