@@ -1,3 +1,4 @@
 pub mod Filling
 pub mod Entries
 pub mod Pass
+pub mod Judged

@@ -1,12 +1,13 @@
 -- The parts of a report as their numbers are stated, and what is wrong with an entry's equivalent. Assumes nothing.
-use mathlib.Core.Bool.{Bool, not, _||_}
+use mathlib.Core.Bool.{Bool, not, _&&_, _||_}
 use mathlib.Core.List.{List, [], _∷_, _++_}
 use Prim.Native.Nat.{ℕ}
-use lib.Dec.{eqb, ltb}
-use lib.ListN.{replicate}
-use Rattle.basis.specs.Bytes.{packed}
+use lib.Dec.{eqb, ltb, leb}
+use lib.ListN.{length, replicate}
+use Rattle.basis.specs.Bytes.{numberAt, packed, startsWith}
 use Rattle.meaning.specs.Masses.{gasCount, equivalent, limit}
-use Rattle.meaning.specs.Report.{figureCount, reportTag, reportLayout, entriesAt, reportLength, figureIn, entryIn}
+use Rattle.meaning.specs.Register.{isYear, mostSources}
+use Rattle.meaning.specs.Report.{figureCount, reportTag, reportLayout, entriesAt, reportLength, reportYear, entryCount, figureIn, entryIn}
 
 -- an entry of a number, a method and figures
 unfoldable pub statedEntry : ℕ → ℕ → List ℕ → List ℕ
@@ -23,3 +24,9 @@ statedHeader year n totals = statedFront year n ++ packed (replicate figureCount
 -- "each equivalent right and at most 10^15": an entry's is not
 unfoldable pub wrongEquivalent : List ℕ → Bool
 wrongEquivalent r = not (eqb (figureIn r gasCount) (equivalent (entryIn r .masses))) || ltb limit (equivalent (entryIn r .masses))
+
+-- a header's length, tag, layout, year and count are right
+unfoldable pub frontRight : List ℕ → Bool
+frontRight b =
+    let n = entryCount b in
+    eqb (length b) (reportLength n) && startsWith reportTag b && eqb (numberAt 2 b 4) reportLayout && isYear (reportYear b) && leb n mostSources

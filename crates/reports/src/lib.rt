@@ -10,7 +10,7 @@ ghost use Rattle.meaning.specs.Report.{figureCount, entriesAt, entryLength, rep
 ghost use Rattle.meaning.specs.Report.{totals as Report·totals};
 ghost use Rattle.meaning.specs.Calls.{checked};
 ghost use Rattle.reports.specs.Figures.{figuresAt, addedAt, Addable};
-ghost use Rattle.reports.specs.Stated.{statedEntry, statedHeader, wrongEquivalent};
+ghost use Rattle.reports.specs.Stated.{statedEntry, statedHeader, wrongEquivalent, frontRight};
 use basis::Answer;
 use exact::GASES;
 use exact::Weighed;
@@ -119,4 +119,62 @@ fn are_entries_right(report: &[u8], n: usize) -> bool
         i += 1;
     }
     are_totals_right(report, &totals)
+}
+
+// The header up to the count, of a report that has n entries.
+fn is_front_right(report: &[u8], n: u64) -> bool
+    requires { ⌜ (entriesAt ≤ length (now report)) × (n ≡ entryCount (now report)) × (n < 65536) ⌝ }
+    ensures { λ r. ⌜ r ≡ frontRight (now (report .entry)) ⌝ }
+{
+    let tagged = fields::starts_with(report, b"GREP");
+    let layout = fields::u16_at(report, 4);
+    let year = fields::u16_at(report, 6);
+    (report.len() as u64 == 56 + 40 * n) & tagged & (layout == 1) & ((1990 <= year) & (year <= 2100)) & (n <= 512)
+}
+
+// "its tag, layout, zeros, offset and length as laid out above .., has a year in range, n at most 512"
+fn is_header_right(report: &[u8]) -> bool
+    requires { ⌜ entriesAt ≤ length (now report) ⌝ }
+    ensures { λ r. ⌜ r ≡ headerRight (now (report .entry)) ⌝ }
+{
+    let n = fields::u16_at(report, 8);
+    let front = is_front_right(report, n);
+    let zeros = fields::u16_at(report, 10);
+    let offset = fields::u32_at(report, 12);
+    let size = fields::u32_at(report, 16);
+    let zeros_after = fields::u32_at(report, 20);
+    front & (zeros == 0) & (offset == 56) & (size == 56 + 40 * n) & (zeros_after == 0)
+}
+
+pub fn is_well_formed(report: &[u8]) -> bool
+    ensures { λ r. ⌜ r ≡ wellFormed (now (report .entry)) ⌝ }
+{
+    if report.len() < ENTRIES_AT {
+        return false;
+    }
+    let right = is_header_right(report);
+    if right {
+        let n = fields::u16_at(report, 8);
+        return are_entries_right(report, n as usize);
+    }
+    false
+}
+
+// "The report check has only 9, place 1"
+pub fn check(report: &[u8]) -> Answer
+    ensures { λ r. ⌜ r ≡ checked (now (report .entry)) ⌝ }
+{
+    let right = is_well_formed(report);
+    if right {
+        return Answer {
+            number: 0,
+            place: 0,
+            length: report.len() as u64,
+        };
+    }
+    Answer {
+        number: 9,
+        place: 1,
+        length: 0,
+    }
 }

@@ -1,0 +1,61 @@
+-- A report judged: its header by the fields that were read, and the whole by its header and its entries. Assumes nothing.
+use mathlib.Core.Bool.{Bool, true, false, not, _&&_}
+use mathlib.Core.List.{List}
+use mathlib.Core.Path.{_≡_, refl, sym, ap, _∙_}
+use Prim.Native.Nat.{ℕ, _+_, _*_, _≤_, _<_}
+use native.Mathlib.Omega.{arith}
+use borrow.Author.Tests.{ne-eqb}
+use lib.Dec.{eqb, leb}
+use lib.ListN.{length}
+use Rattle.basis.specs.declared.Answer.{Answer}
+use Rattle.basis.specs.Bytes.{startsWith}
+use Rattle.basis.specs.Lists.{countUp, any}
+use Rattle.meaning.specs.Methods.{within}
+use Rattle.meaning.specs.Register.{mostSources}
+use Rattle.meaning.specs.Report.{figureCount, reportTag, entriesAt, reportLength, entryCount, headerRight, wrongEntry, wrongTotal, wellFormed}
+use Rattle.meaning.specs.Calls.{checked}
+use Rattle.meaning.proofs.Reports.{headed}
+use Rattle.fields.specs.Fields.{Field}
+use Rattle.reports.specs.Stated.{frontRight}
+
+module _ (b : List ℕ) where
+  pub front-judged : {n layout year : ℕ} {tagged : Bool} → (entriesAt ≤ length b) × (n ≡ entryCount b) × (n < 65536) → tagged ≡ startsWith reportTag b
+      → Field 2 b 4 layout → Field 2 b 6 year
+      → eqb (length b) (56 + 40 * n) && tagged && eqb layout 1 && (leb 1990 year && leb year 2100) && leb n 512 ≡ frontRight b
+  unfolding frontRight
+  front-judged p t l y = rw (p .1, t, l .is, y .is)
+
+  pub header-judged : {n zeros offset size after : ℕ} {front : Bool} → front ≡ frontRight b → Field 2 b 8 n → Field 2 b 10 zeros
+      → Field 4 b 12 offset → Field 4 b 16 size → Field 4 b 20 after
+      → front && eqb zeros 0 && eqb offset 56 && eqb size (56 + 40 * n) && eqb after 0 ≡ headerRight b
+  unfolding frontRight headerRight
+  header-judged f n z o s a = rw (f, n .is, z .is, o .is, s .is, a .is)
+
+  -- what is shorter than a header has none
+  pub too-short : length b < entriesAt → false ≡ wellFormed b
+  unfolding wellFormed headerRight
+  too-short l = rw (ne-eqb (length b) (reportLength (entryCount b)) (λ e. absurd (omega arith)))
+
+  module _ {right : Bool} (e : right ≡ headerRight b) where
+    pub header-wrong : right ≡ false → false ≡ wellFormed b
+    unfolding wellFormed
+    header-wrong f = rw (← e, f)
+
+    module _ (t : right ≡ true) {n : ℕ} (f : Field 2 b 8 n) where
+      pub header-length : length b ≡ reportLength n
+      header-length = rw (f .is) (headed b (sym e ∙ t) .filled)
+
+      pub header-few : n ≤ mostSources
+      header-few = rw (f .is) (headed b (sym e ∙ t) .few)
+
+      pub entries-judged : {r : Bool} → r ≡ not (any (wrongEntry b) (countUp 0 n)) && not (any (wrongTotal b) (countUp 0 figureCount)) → r ≡ wellFormed b
+      unfolding wellFormed
+      entries-judged j = rw (← e, t, ← f .is) j
+
+  pub report-right : {right : Bool} → right ≡ wellFormed b → right ≡ true → record { number = 0; place = 0; length = length b } ≡ checked b
+  unfolding checked
+  report-right e t = rw (← e, t)
+
+  pub report-wrong : {right : Bool} → right ≡ wellFormed b → right ≡ false → record { number = 9; place = 1; length = 0 } ≡ checked b
+  unfolding checked
+  report-wrong e t = rw (← e, t)

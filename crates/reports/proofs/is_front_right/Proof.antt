@@ -1,0 +1,16 @@
+use borrow.Author.Needs.{needs}
+use Rattle.reports.proofs.Judged.{front-judged}
+use Rattle.reports.proofs.is_front_right.Statement.{statement}
+use Rattle.reports.proofs.is_front_right.Tie as tie
+
+pub is-front-right-spec : {M : Type 1} → statement M
+is-front-right-spec =
+    tie.close
+    (tie.spec
+    (search needs)
+    (search needs)
+    (search needs)
+    (search needs)
+    (search needs)
+    (search needs)
+    (λ c. search (needs, front-judged)))

@@ -1,0 +1,18 @@
+use borrow.Author.Needs.{needs}
+use Rattle.reports.proofs.Judged.{header-judged}
+use Rattle.reports.proofs.is_header_right.Statement.{statement}
+use Rattle.reports.proofs.is_header_right.Tie as tie
+
+pub is-header-right-spec : {M : Type 1} → statement M
+is-header-right-spec =
+    tie.close
+    (tie.spec
+    (search needs)
+    (search needs)
+    (search needs)
+    (search needs)
+    (search needs)
+    (search needs)
+    (search needs)
+    (search needs)
+    (λ c. search (needs, header-judged)))

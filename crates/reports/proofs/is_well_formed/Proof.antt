@@ -1,0 +1,15 @@
+use borrow.Author.Needs.{needs}
+use Rattle.reports.proofs.Judged.{too-short, header-wrong, header-length, header-few, entries-judged}
+use Rattle.reports.proofs.is_well_formed.Statement.{statement}
+use Rattle.reports.proofs.is_well_formed.Tie as tie
+
+pub is-well-formed-spec : {M : Type 1} → statement M
+is-well-formed-spec =
+    tie.close
+    (tie.spec
+    (λ c. search (needs, too-short))
+    (search needs)
+    (search needs)
+    (λ c κs. search (needs, header-length, header-few))
+    (λ c. search (needs, entries-judged))
+    (λ c. search (needs, header-wrong)))
