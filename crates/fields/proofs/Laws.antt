@@ -1,7 +1,7 @@
 -- The loops that read and write bytes: how each begins, goes on and ends. Assumes nothing.
 use mathlib.Core.Bool.{true, false, _&&_}
 use mathlib.Core.Path.{_≡_, refl, sym, ap, _∙_}
-use mathlib.Core.List.{List, [], _∷_, append-assoc}
+use mathlib.Core.List.{List, [], _∷_, _++_, append-assoc}
 use Prim.Native.Nat.{ℕ, suc, _+_, _*_, _-_, _/_, _%_, _^_, _≤_, _<_}
 use native.Mathlib.Nat.{add-assoc, add-zero, sub-zero, sub-self, pow-suc, pow-le-pow-right}
 use native.Mathlib.Numerals.{add-one}
@@ -11,10 +11,10 @@ use mir.Val.{Fits}
 use borrow.Author.Needs.{needs}
 use borrow.Author.Tests.{eq-eqb, ne-eqb}
 use lib.Dec.{eqb}
-use lib.ListN.{length, take, drop, getD, set, length-set, drop-of-length-le}
+use lib.ListN.{length, take, drop, getD, set, length-append, length-set, drop-of-length-le}
 use lib.Seq.{set-split, drop-cons, drop-drop, getD-drop}
 use Rattle.basis.specs.Bytes.{bytesOf, numberOf, numberAt, splice, startsWith, Written}
-use Rattle.basis.proofs.Bytes.{length-bytesOf, splice-none, splice-splice}
+use Rattle.basis.proofs.Bytes.{length-bytesOf, splice-none, splice-splice, length-written}
 use Rattle.fields.specs.Fields.{Field}
 
 -- n is the number of the bytes from the i-th up to the k-th at a place
@@ -73,7 +73,7 @@ splice-cons bs at b rest h =
     let e : set bs at b ≡ splice bs at (b ∷ []) = simp (set-split, add-one, append-assoc) in
     ap (λ (l : List ℕ). splice l (at + 1) rest) e ∙ splice-splice bs at (b ∷ []) rest (omega arith)
 
-writing-none : (bs : List ℕ) (at : ℕ) (ys : List ℕ) → at + length ys ≤ length bs → Writing bs at ys bs at ys
+pub writing-none : (bs : List ℕ) (at : ℕ) (ys : List ℕ) → at + length ys ≤ length bs → Writing bs at ys bs at ys
 writing-none bs at ys h = record { fits = h; kept = refl; end = refl; whole = refl }
 
 writing-more : {bs₀ : List ℕ} {at : ℕ} {ys bs : List ℕ} {p b : ℕ} {rest : List ℕ} → Writing bs₀ at ys bs p (b ∷ rest)
@@ -86,7 +86,20 @@ writing-more {bs = bs} {p = p} {b = b} {rest = rest} w =
       whole = splice-cons bs p b rest (omega (arith, w .fits, w .kept, w .end)) ∙ w .whole;
     }
 
-writing-all : {bs₀ : List ℕ} {at : ℕ} {ys bs : List ℕ} {p : ℕ} → Writing bs₀ at ys bs p [] → Written bs₀ at ys bs
+-- what is left begins with what is written next
+pub writing-then : {bs₀ : List ℕ} {at : ℕ} {ys bs : List ℕ} {p : ℕ} {zs rest cs : List ℕ} → Writing bs₀ at ys bs p (zs ++ rest) → Written bs p zs cs
+    → Writing bs₀ at ys cs (p + length zs) rest
+writing-then {bs = bs} {p = p} {zs = zs} {rest = rest} w v =
+    let l : length (zs ++ rest) ≡ length zs + length rest = length-append zs rest in
+    let q : p ≤ length bs = omega (arith, v .fits) in
+    record {
+      fits = w .fits;
+      kept = length-written v ∙ w .kept;
+      end = omega (arith, w .end);
+      whole = rw (v .is, splice-splice bs p zs rest q) (w .whole);
+    }
+
+pub writing-all : {bs₀ : List ℕ} {at : ℕ} {ys bs : List ℕ} {p : ℕ} → Writing bs₀ at ys bs p [] → Written bs₀ at ys bs
 writing-all {bs = bs} {p = p} w = record { fits = w .fits; is = sym (splice-none bs p) ∙ w .whole }
 
 -- i of the k bytes of v are written, and those of w are left

@@ -7,11 +7,15 @@ use lib.ListN.{length, replicate}
 use Rattle.basis.specs.Bytes.{numberAt, packed, startsWith}
 use Rattle.meaning.specs.Masses.{gasCount, equivalent, limit}
 use Rattle.meaning.specs.Register.{isYear, mostSources}
-use Rattle.meaning.specs.Report.{figureCount, reportTag, reportLayout, entriesAt, reportLength, reportYear, entryCount, figureIn, entryIn}
+use Rattle.meaning.specs.Report.{reportTag, reportLayout, entriesAt, reportLength, reportYear, entryCount, figureIn, entryIn}
+
+-- figures, eight bytes each
+unfoldable pub figureBytes : List ℕ → List ℕ
+figureBytes figures = packed (replicate (length figures) 8) figures
 
 -- an entry of a number, a method and figures
 unfoldable pub statedEntry : ℕ → ℕ → List ℕ → List ℕ
-statedEntry number method figures = packed (4 ∷ 1 ∷ 3 ∷ []) (number ∷ method ∷ 0 ∷ []) ++ packed (replicate figureCount 8) figures
+statedEntry number method figures = packed (4 ∷ 1 ∷ 3 ∷ []) (number ∷ method ∷ 0 ∷ []) ++ figureBytes figures
 
 -- the header before the totals, of a year and a count
 unfoldable pub statedFront : ℕ → ℕ → List ℕ
@@ -19,7 +23,7 @@ statedFront year n = reportTag ++ packed (2 ∷ 2 ∷ 2 ∷ 2 ∷ 4 ∷ 4 ∷ 4 
 
 -- the header of a year, a count and totals
 unfoldable pub statedHeader : ℕ → ℕ → List ℕ → List ℕ
-statedHeader year n totals = statedFront year n ++ packed (replicate figureCount 8) totals
+statedHeader year n totals = statedFront year n ++ figureBytes totals
 
 -- "each equivalent right and at most 10^15": an entry's is not
 unfoldable pub wrongEquivalent : List ℕ → Bool

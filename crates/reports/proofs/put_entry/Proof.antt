@@ -1,0 +1,14 @@
+use borrow.Author.Needs.{needs}
+use Rattle.reports.proofs.Writing.{entry-written}
+use Rattle.reports.proofs.put_entry.Statement.{statement}
+use Rattle.reports.proofs.put_entry.Tie as tie
+
+pub put-entry-spec : {M : Type 1} → statement M
+put-entry-spec =
+    tie.close
+    (tie.spec
+    (search needs)
+    (search needs)
+    (search needs)
+    (search needs)
+    (λ c. search (needs, entry-written)))

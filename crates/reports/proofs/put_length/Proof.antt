@@ -1,0 +1,15 @@
+use borrow.Author.Needs.{needs}
+use Rattle.reports.proofs.Writing.{packed-two}
+use Rattle.reports.proofs.put_length.Statement.{statement}
+use Rattle.reports.proofs.put_length.Tie as tie
+
+pub put-length-spec : {M : Type 1} → statement M
+put-length-spec =
+    tie.close
+    (tie.spec
+    (search needs)
+    (search needs)
+    (search needs)
+    (search needs)
+    (search needs)
+    (λ c. search (needs, packed-two)))
