@@ -4,6 +4,7 @@ use mathlib.Core.List.{List, [], _∷_, _++_, map}
 use Prim.Native.Nat.{ℕ, zero, suc, _+_, _/_, _%_}
 use lib.Dec.{ltb}
 use lib.ListN.{length}
+use Rattle.basis.specs.Bytes.{ascii}
 use Rattle.basis.specs.Lists.{joined}
 use Rattle.meaning.specs.Report.{Entry, figures, totals}
 
@@ -29,3 +30,7 @@ textLine (n ∷ m ∷ ns) = decimal n ++ (32 ∷ textLine (m ∷ ns))
 -- "year, count and the four totals, then one line an entry: number, method, CO2, CH4, N2O, equivalent"
 unfoldable pub reportText : ℕ → List Entry → List ℕ
 reportText year es = textLine (year ∷ length es ∷ totals es) ++ joined (map (λ e. textLine (e .number ∷ e .method ∷ figures e)) es)
+
+-- "A refusal is the line `refused`, number, place"
+unfoldable pub refusedLine : ℕ → ℕ → List ℕ
+refusedLine number place = ascii "refused " ++ textLine (number ∷ place ∷ [])

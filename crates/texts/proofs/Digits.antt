@@ -1,0 +1,136 @@
+-- Decimal numbers: how many digits they have, and how they are written. Assumes nothing.
+use mathlib.Core.Bool.{true, false}
+use mathlib.Core.List.{List, [], _∷_, _++_, append-assoc}
+use mathlib.Core.Path.{_≡_, refl, sym, ap, _∙_}
+use Prim.Native.Nat.{ℕ, zero, suc, _+_, _*_, _-_, _/_, _%_, _^_, _≤_, _<_}
+use native.Mathlib.Nat.{add-zero, sub-zero, pow-suc}
+use native.Mathlib.Numerals.{add-one}
+use native.Mathlib.Omega.{arith}
+use borrow.Author.Needs.{needs}
+use borrow.Author.Tests.{lt-ltb, le-ltb, eqb-true}
+use lib.Dec.{eqb}
+use lib.ListN.{length, getD, take, drop, set, length-append, length-set}
+use lib.Seq.{drop-cons, take-set-le, drop-set-lt, getD-set-same}
+use mir.Syntax.{w64}
+use mir.Val.{Fits}
+use Rattle.basis.specs.Bytes.{splice, Written}
+use Rattle.basis.proofs.Bytes.{splice-none}
+use Rattle.basis.proofs.Tables.{everywhere-at}
+use Rattle.meaning.specs.Text.{digit, digits, decimal}
+use Rattle.texts.specs.Digits.{spelled, Counted}
+
+pub length-spelled : (k n : ℕ) → length (spelled k n) ≡ k
+unfolding spelled
+length-spelled zero n = refl
+length-spelled (suc k) n = rw (length-append, length-spelled k (n / 10)) (omega arith)
+
+-- a number below ten is one digit, and a larger one is a digit behind those of its tenth
+one-digit : (fuel n : ℕ) → n < 10 → digits fuel n ≡ spelled 1 n
+unfolding digits spelled
+one-digit zero n l = let e : n % 10 ≡ n = omega arith in rw e
+one-digit (suc fuel) n l = let e : n % 10 ≡ n = omega arith in rw (lt-ltb n 10 l, e)
+
+more-digits : (fuel n : ℕ) → 10 ≤ n → digits (suc fuel) n ≡ digits fuel (n / 10) ++ (digit (n % 10) ∷ [])
+unfolding digits
+more-digits fuel n l = rw (le-ltb n 10 l)
+
+tens-above-zero : (k : ℕ) → 0 < 10 ^ k
+tens-above-zero zero = omega arith
+tens-above-zero (suc k) = rw (pow-suc 10 k) (omega (arith, tens-above-zero k))
+
+-- with fuel enough, a number of k + 1 digits is those
+digits-spelled : (k fuel n : ℕ) → n ≤ fuel → n < 10 ^ suc k → (0 < k → 10 ^ k ≤ n) → digits fuel n ≡ spelled (suc k) n
+unfolding spelled
+digits-spelled zero fuel n f l h = one-digit fuel n (omega (arith, rw (pow-suc 10 0) at l))
+digits-spelled (suc k) zero n f l h = absurd (omega (arith, h (omega arith), tens-above-zero (suc k)))
+digits-spelled (suc k) (suc fuel) n f l h =
+    let low : 10 ^ suc k ≤ n = h (omega arith) in
+    let e : 10 ^ suc k ≡ 10 ^ k * 10 = pow-suc 10 k in
+    let g : 10 ^ suc (suc k) ≡ 10 ^ suc k * 10 = pow-suc 10 (suc k) in
+    let p : 0 < 10 ^ k = tens-above-zero k in
+    rw (more-digits fuel n (omega arith), digits-spelled k fuel (n / 10) (omega arith) (omega arith) (λ q. omega arith))
+
+-- so many powers of ten, from one on
+abbrev powersFrom : ℕ → ℕ → List ℕ
+powersFrom power zero = []
+powersFrom power (suc k) = power ∷ powersFrom (power * 10) k
+
+pub power-is : (k : ℕ) → k < 20 → getD (powersFrom 1 20) k 0 ≡ 10 ^ k
+power-is k l = eqb-true _ _ (everywhere-at (λ i power. eqb power (10 ^ i)) (powersFrom 1 20) 0 refl k l)
+
+-- n has k digits or more
+pub record Counting (n k : ℕ) : Type 0 where
+  pub some : 1 ≤ k
+  pub few : k ≤ 20
+  pub above : 1 < k → 10 ^ (k - 1) ≤ n
+
+pub counting-one : (n : ℕ) → Counting n 1
+counting-one n = record { some = omega arith; few = omega arith; above = λ l. absurd (omega arith) }
+
+module _ {n k : ℕ} (c : Counting n k) where
+  pub counting-more : {power : ℕ} → power ≡ 10 ^ k → power ≤ n → k < 20 → Counting n (k + 1)
+  counting-more e h l =
+      let q : k + 1 - 1 ≡ k = omega arith in
+      record { some = omega arith; few = omega arith; above = λ m. rw (q, ← e) h }
+
+  counted : n < 10 ^ k → Counted n k
+  unfolding decimal
+  counted h =
+      let q : suc (k - 1) ≡ k = omega (arith, c .some) in
+      let l : n < 10 ^ suc (k - 1) = rw q h in
+      let e : decimal n ≡ spelled k n = rw q at (digits-spelled (k - 1) n n (omega arith) l (λ m. c .above (omega arith))) in
+      record { is = e; count = sym (ap length e ∙ length-spelled k n); few = c .few }
+
+  pub counting-found : {power : ℕ} → power ≡ 10 ^ k → n < power → Counted n k
+  counting-found e h = counted (rw (← e) h)
+
+  pub counting-all : 20 ≤ k → Fits w64 n → Counted n k
+  counting-all h f =
+      let e : k ≡ 20 = omega (arith, c .few) in
+      counted (rw e (omega (arith, f .fits)))
+
+pub ruleset counting = (needs, counting-one, counting-more, counting-found, counting-all)
+
+-- a byte behind what is still to be written
+splice-last : (b : List ℕ) (at v : ℕ) (ys : List ℕ) → at + length ys < length b → splice (set b (at + length ys) v) at ys ≡ splice b at (ys ++ (v ∷ []))
+unfolding splice
+splice-last b at v ys h =
+    let p = at + length ys in
+    let s : p < length (set b p v) = rw (length-set b p v) h in
+    let d : drop p (set b p v) ≡ v ∷ drop (suc p) b =
+    rw (drop-cons (set b p v) p 0 s, getD-set-same b p v 0 h, drop-set-lt (suc p) b p v (omega arith)) in
+    let q : suc p ≡ at + length (ys ++ (v ∷ [])) = rw length-append (omega arith) in
+    rw (take-set-le at b p v (omega arith), d, q) (simp append-assoc)
+
+-- i of the digits of n are still to be written, those of rest
+pub record Spelling (b₀ : List ℕ) (at n k : ℕ) (b : List ℕ) (i rest : ℕ) : Type 0 where
+  pub low : i ≤ k
+  pub fits : at + k ≤ length b₀
+  pub kept : length b ≡ length b₀
+  pub whole : splice b at (spelled i rest) ≡ splice b₀ at (spelled k n)
+
+pub spelling-none : (b : List ℕ) (at n k : ℕ) → at + k ≤ length b → Spelling b at n k b k n
+spelling-none b at n k h = record { low = omega arith; fits = h; kept = refl; whole = refl }
+
+module _ {b₀ : List ℕ} {at n k : ℕ} {b : List ℕ} {i rest : ℕ} (s : Spelling b₀ at n k b i rest) where
+  pub spelling-more : 0 < i → Spelling b₀ at n k (set b (at + (i - 1)) (48 + rest % 10)) (i - 1) (rest / 10)
+  unfolding spelled
+  spelling-more l =
+      let q : i ≡ suc (i - 1) = omega arith in
+      let z : length (spelled (i - 1) (rest / 10)) ≡ i - 1 = length-spelled (i - 1) (rest / 10) in
+      let w : splice b at (spelled (i - 1) (rest / 10) ++ (digit (rest % 10) ∷ [])) ≡ splice b₀ at (spelled k n) = rw q at (s .whole) in
+      let m : at + length (spelled (i - 1) (rest / 10)) < length b = omega (arith, s .low, s .fits, s .kept) in
+      record {
+        low = omega (arith, s .low);
+        fits = s .fits;
+        kept = length-set b (at + (i - 1)) (48 + rest % 10) ∙ s .kept;
+        whole = (rw z at (splice-last b at (48 + rest % 10) (spelled (i - 1) (rest / 10)) m)) ∙ w;
+      }
+
+  pub spelling-all : i ≤ 0 → Written b₀ at (spelled k n) b
+  unfolding spelled
+  spelling-all h =
+      let z : i ≡ 0 = omega arith in
+      record { fits = rw (length-spelled k n) (s .fits); is = sym (splice-none b at) ∙ (rw z at (s .whole)) }
+
+pub ruleset spelling = (needs, spelling-none, spelling-more, spelling-all)

@@ -1,0 +1,24 @@
+use Prim.Native.Nat.{_-_}
+use Rattle.texts.proofs.Digits.{Counting, counting}
+use Rattle.texts.proofs.digit_count.Statement.{statement}
+use Rattle.texts.proofs.digit_count.Tie as tie
+
+abbrev Inv-loop : tie.InvT-loop
+Inv-loop n k₀ k = Counting n k
+
+abbrev μ-loop : tie.MeasureT-loop
+μ-loop n k₀ k = 20 - k
+
+pub digit-count-spec : {M : Type 1} → statement M
+digit-count-spec =
+    tie.close
+    (tie.spec
+    Inv-loop
+    μ-loop
+    (λ c. search counting)
+    (λ c κs. search counting)
+    (λ c. search counting)
+    (λ c. search counting)
+    (λ c. search counting)
+    (λ c. search counting)
+    (λ c. search counting))

@@ -1,0 +1,26 @@
+use Rattle.texts.proofs.Digits.{Spelling, spelling}
+use Rattle.texts.proofs.put_digits.Statement.{statement}
+use Rattle.texts.proofs.put_digits.Tie as tie
+
+abbrev Inv-loop : tie.InvT-loop
+Inv-loop buf₀ at n k i₀ rest₀ buf i rest = Spelling buf₀ at n k buf i rest
+
+abbrev μ-loop : tie.MeasureT-loop
+μ-loop buf₀ at n k i₀ rest₀ buf i rest = i
+
+pub put-digits-spec : {M : Type 1} → statement M
+put-digits-spec =
+    tie.close
+    (tie.spec
+    Inv-loop
+    μ-loop
+    (λ c. search spelling)
+    (λ c. search spelling)
+    (λ c. search spelling)
+    (λ c. search spelling)
+    (λ c. search spelling)
+    (λ c. search spelling)
+    (λ c. search spelling)
+    (λ c. search spelling)
+    (λ c. search spelling)
+    (λ c. search spelling))

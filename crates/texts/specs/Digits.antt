@@ -1,0 +1,17 @@
+-- The digits of a number by how many they are. Assumes nothing.
+use mathlib.Core.List.{List, [], _∷_, _++_}
+use mathlib.Core.Path.{_≡_}
+use Prim.Native.Nat.{ℕ, zero, suc, _/_, _%_, _≤_}
+use lib.ListN.{length}
+use Rattle.meaning.specs.Text.{digit, decimal}
+
+-- the last k digits of n, highest first, as bytes
+unfoldable pub spelled : ℕ → ℕ → List ℕ
+spelled zero n = []
+spelled (suc k) n = spelled k (n / 10) ++ (digit (n % 10) ∷ [])
+
+-- n has k digits, at most twenty
+pub record Counted (n k : ℕ) : Type 0 where
+  pub is : decimal n ≡ spelled k n
+  pub count : k ≡ length (decimal n)
+  pub few : k ≤ 20
