@@ -1,8 +1,9 @@
 -- The digits of a number by how many they are. Assumes nothing.
 use mathlib.Core.List.{List, [], _∷_, _++_}
 use mathlib.Core.Path.{_≡_}
-use Prim.Native.Nat.{ℕ, zero, suc, _/_, _%_, _≤_}
+use Prim.Native.Nat.{ℕ, zero, suc, _+_, _/_, _%_, _≤_}
 use lib.ListN.{length}
+use Rattle.basis.specs.Bytes.{Written}
 use Rattle.meaning.specs.Text.{digit, decimal}
 
 -- the last k digits of n, highest first, as bytes
@@ -15,3 +16,12 @@ pub record Counted (n k : ℕ) : Type 0 where
   pub is : decimal n ≡ spelled k n
   pub count : k ≡ length (decimal n)
   pub few : k ≤ 20
+
+-- a number, and the byte behind it
+unfoldable pub field : ℕ → ℕ → List ℕ
+field n after = decimal n ++ (after ∷ [])
+
+-- ys is written over xs at a place, and ends where the next begins
+pub record Put (xs : List ℕ) (at : ℕ) (ys zs : List ℕ) (end : ℕ) : Type 0 where
+  pub written : Written xs at ys zs
+  pub ends : end ≡ at + length ys

@@ -8,7 +8,7 @@ ghost use Rattle.basis.specs.Answers.{Gives};
 ghost use Rattle.basis.specs.Bytes.{Written};
 ghost use Rattle.meaning.specs.Text.{decimal, textLine, reportText, refusedLine};
 ghost use Rattle.meaning.specs.Report.{reportYear, entryCount, entriesOf, wellFormed};
-ghost use Rattle.texts.specs.Digits.{Counted, spelled};
+ghost use Rattle.texts.specs.Digits.{Counted, Put, spelled, field};
 
 // The powers of ten that fit 64 bits.
 const POWERS: [u64; 20] = [
@@ -68,4 +68,29 @@ fn put_digits(buf: &mut [u8], at: usize, n: u64, k: usize)
         buf[at + i] = (48 + rest % 10) as u8;
         rest = rest / 10;
     }
+}
+
+// A number and the byte behind it, a space or a line feed. Answers where the next field begins.
+fn put_field(buf: &mut [u8], at: usize, n: u64, after: u8) -> usize
+    requires { ⌜ at + length (field n after) ≤ length (now buf) ⌝ }
+    ensures { λ r. ⌜ Put (now (buf .entry)) at (field n after) (now (buf .exit)) r ⌝ }
+{
+    let k = digit_count(n);
+    put_digits(buf, at, n, k);
+    buf[at + k] = after;
+    at + k + 1
+}
+
+// A line of numbers: "One space parts fields, a line feed ends each line".
+fn put_line(buf: &mut [u8], at: usize, ns: &[u64]) -> usize
+    requires { ⌜ (at + length (textLine (now ns)) ≤ length (now buf)) × (0 < length (now ns)) ⌝ }
+    ensures { λ r. ⌜ Put (now (buf .entry)) at (textLine (now (ns .entry))) (now (buf .exit)) r ⌝ }
+{
+    let mut p = at;
+    let mut k: usize = 0;
+    while k + 1 < ns.len() {
+        p = put_field(buf, p, ns[k], b' ');
+        k += 1;
+    }
+    put_field(buf, p, ns[k], b'\n')
 }

@@ -1,0 +1,85 @@
+-- Fields and lines as they are written, and how long they are. Assumes nothing.
+use mathlib.Core.List.{List, [], _∷_, _++_, append-assoc}
+use mathlib.Core.Path.{_≡_, refl, sym, ap, _∙_}
+use Prim.Native.Nat.{ℕ, zero, suc, _+_, _*_, _-_, _≤_, _<_}
+use native.Mathlib.Numerals.{add-one}
+use native.Mathlib.Omega.{arith}
+use borrow.Author.Needs.{needs}
+use lib.ListN.{length, getD, drop, set, length-append, drop-of-length-le}
+use lib.Seq.{set-split, drop-cons}
+use Rattle.basis.specs.Bytes.{splice, Written}
+use Rattle.basis.proofs.Bytes.{written-then, length-written}
+use Rattle.meaning.specs.Text.{decimal, textLine}
+use Rattle.fields.proofs.Laws.{Writing, writing-none, writing-then, writing-last}
+use Rattle.texts.specs.Digits.{spelled, Counted, field, Put}
+use Rattle.texts.proofs.Digits.{length-spelled}
+
+-- a byte that is stored is written
+written-one : (xs : List ℕ) (at x : ℕ) → at < length xs → Written xs at (x ∷ []) (set xs at x)
+unfolding splice
+written-one xs at x h = record { fits = omega arith; is = simp (set-split, add-one, append-assoc) }
+
+pub length-field : (n after : ℕ) → length (field n after) ≡ length (decimal n) + 1
+unfolding field
+length-field n after = length-append (decimal n) (after ∷ [])
+
+module _ {n k : ℕ} (at after : ℕ) (xs : List ℕ) (c : Counted n k) (h : at + length (field n after) ≤ length xs) where
+  pub field-room : at + k ≤ length xs
+  field-room = omega (arith, c .count, length-field n after)
+
+  pub field-last : {ys : List ℕ} → Written xs at (spelled k n) ys → at + k < length ys
+  field-last w = omega (arith, c .count, length-field n after, length-written w)
+
+  pub field-put : {ys : List ℕ} → Written xs at (spelled k n) ys → Put xs at (field n after) (set ys (at + k) after) (at + k + 1)
+  unfolding field
+  field-put {ys} w =
+      let q : at + k ≡ at + length (spelled k n) = rw (length-spelled k n) in
+      record {
+        written = rw (c .is) (written-then w (written-one ys (at + k) after (field-last w)) q);
+        ends = omega (arith, c .count, length-field n after);
+      }
+
+pub ruleset fielding = (needs, field-room, field-last, field-put)
+
+-- a line is its fields, each with a space behind it and the last with a line feed
+line-more : (ns : List ℕ) (k : ℕ) → k + 1 < length ns → textLine (drop k ns) ≡ field (getD ns k 0) 32 ++ textLine (drop (k + 1) ns)
+unfolding textLine field
+line-more ns k h =
+    let l : k < length ns = omega arith in
+    let m : suc k < length ns = omega arith in
+    rw (add-one k, drop-cons ns k 0 l, drop-cons ns (suc k) 0 m)
+    (sym (append-assoc (decimal (getD ns k 0)) (32 ∷ []) (textLine (getD ns (suc k) 0 ∷ drop (suc (suc k)) ns))))
+
+line-last : (ns : List ℕ) (k : ℕ) → k < length ns → length ns ≤ k + 1 → textLine (drop k ns) ≡ field (getD ns k 0) 10
+unfolding textLine field
+line-last ns k l h = rw (drop-cons ns k 0 l, drop-of-length-le ns {i = suc k} (omega arith))
+
+-- k fields of a line are written
+pub record Lining (bs₀ : List ℕ) (at : ℕ) (ns bs : List ℕ) (p k : ℕ) : Type 0 where
+  pub low : k < length ns
+  pub left : Writing bs₀ at (textLine ns) bs p (textLine (drop k ns))
+
+pub lining-none : (bs : List ℕ) (at : ℕ) (ns : List ℕ) → (at + length (textLine ns) ≤ length bs) × (0 < length ns) → Lining bs at ns bs at 0
+lining-none bs at ns h = record { low = h .1; left = writing-none bs at (textLine ns) (h .0) }
+
+module _ {bs₀ : List ℕ} {at : ℕ} {ns bs : List ℕ} {p k : ℕ} (l : Lining bs₀ at ns bs p k) where
+  module _ (h : k + 1 < length ns) where
+    pub lining-room : p + length (field (getD ns k 0) 32) ≤ length bs
+    lining-room =
+        let e : length (textLine (drop k ns)) ≡ length (field (getD ns k 0) 32) + length (textLine (drop (k + 1) ns)) =
+        ap length (line-more ns k h) ∙ length-append (field (getD ns k 0) 32) (textLine (drop (k + 1) ns)) in
+        omega (arith, l .left .end, l .left .fits, l .left .kept)
+
+    pub lining-more : {cs : List ℕ} {q : ℕ} → Put bs p (field (getD ns k 0) 32) cs q → Lining bs₀ at ns cs q (k + 1)
+    lining-more w = record { low = h; left = rw (w .ends) (writing-then (rw (line-more ns k h) at (l .left)) (w .written)) }
+
+  module _ (h : length ns ≤ k + 1) where
+    pub lining-room-last : p + length (field (getD ns k 0) 10) ≤ length bs
+    lining-room-last = omega (arith, ap length (line-last ns k (l .low) h), l .left .end, l .left .fits, l .left .kept)
+
+    pub lining-all : {cs : List ℕ} {q : ℕ} → Put bs p (field (getD ns k 0) 10) cs q → Put bs₀ at (textLine ns) cs q
+    lining-all w =
+        let e = line-last ns k (l .low) h in
+        record { written = writing-last (rw e at (l .left)) (w .written); ends = omega (arith, w .ends, ap length e, l .left .end) }
+
+pub ruleset lining = (needs, lining-none, lining-room, lining-more, lining-room-last, lining-all)
