@@ -1,14 +1,19 @@
 // Document 01, "The report program": the text of a report, and the line of a refusal.
-ghost use mathlib.Core.Bool.{true};
 ghost use mathlib.Core.List.{List, [], _∷_, _++_};
 ghost use mathlib.Core.Path.{_≡_};
-ghost use Prim.Native.Nat.{_+_, _^_, _≤_, _<_};
+ghost use Prim.Native.Nat.{_+_, _*_, _^_, _≤_, _<_};
 ghost use lib.ListN.{length};
 ghost use Rattle.basis.specs.Answers.{Gives};
 ghost use Rattle.basis.specs.Bytes.{Written};
 ghost use Rattle.meaning.specs.Text.{decimal, textLine, reportText, refusedLine};
-ghost use Rattle.meaning.specs.Report.{reportYear, entryCount, entriesOf, wellFormed};
+ghost use Rattle.meaning.specs.Report.{figureCount, reportYear, entryCount, entryAt, entryIn, entriesOf};
+ghost use Rattle.reports.specs.Figures.{figuresAt};
+ghost use Rattle.texts.specs.Rows.{Readable, Measured, numbersOf, headNumbers, entryNumbers};
 ghost use Rattle.texts.specs.Digits.{Counted, Put, spelled, field};
+
+use reports::ENTRIES_AT;
+use reports::ENTRY_LENGTH;
+use reports::FIGURES;
 
 // The powers of ten that fit 64 bits.
 const POWERS: [u64; 20] = [
@@ -93,4 +98,82 @@ fn put_line(buf: &mut [u8], at: usize, ns: &[u64]) -> usize
         k += 1;
     }
     put_field(buf, p, ns[k], b'\n')
+}
+
+// The bytes of a line of figures.
+fn line_length(figures: &[u64]) -> usize
+    requires { ⌜ length (now figures) ≡ figureCount ⌝ }
+    ensures { λ r. ⌜ Measured (now (figures .entry)) r ⌝ }
+{
+    let mut total: usize = 0;
+    let mut k: usize = 0;
+    while k < figures.len() {
+        let digits = digit_count(figures[k]);
+        total += digits + 1;
+        k += 1;
+    }
+    total
+}
+
+// The numbers of a line of the report's text: year, count and totals, or number, method and figures.
+struct Row {
+    first: u64,
+    second: u64,
+    figures: [u64; FIGURES],
+}
+
+fn row_at(report: &[u8], first: u64, second: u64, at: usize) -> Row
+    requires { ⌜ at + 8 * figureCount ≤ length (now report) ⌝ }
+    ensures { λ r. ⌜ numbersOf r ≡ first ∷ second ∷ figuresAt figureCount (now (report .entry)) at ⌝ }
+{
+    let mut figures = [0u64; FIGURES];
+    reports::read_figures(report, at, &mut figures);
+    Row {
+        first,
+        second,
+        figures,
+    }
+}
+
+// "year, count and the four totals"
+fn head_row(report: &[u8]) -> Row
+    requires { ⌜ Readable (now report) ⌝ }
+    ensures { λ r. ⌜ numbersOf r ≡ headNumbers (now (report .entry)) ⌝ }
+{
+    let year = fields::u16_at(report, 6);
+    let n = fields::u16_at(report, 8);
+    row_at(report, year, n, 24)
+}
+
+// "one line an entry: number, method, CO2, CH4, N2O, equivalent"
+fn entry_row(report: &[u8], i: usize) -> Row
+    requires { ⌜ Readable (now report) × (i < entryCount (now report)) ⌝ }
+    ensures { λ r. ⌜ numbersOf r ≡ entryNumbers (entryIn (entryAt (now (report .entry)) i)) ⌝ }
+{
+    let at = ENTRIES_AT + ENTRY_LENGTH * i;
+    let number = fields::u32_at(report, at);
+    let method = fields::u8_at(report, at + 4);
+    row_at(report, number, method, at + 8)
+}
+
+fn row_length(row: Row) -> usize
+    ensures { λ r. ⌜ Measured (numbersOf row) r ⌝ }
+{
+    let figures = row.figures;
+    let first = digit_count(row.first);
+    let second = digit_count(row.second);
+    let rest = line_length(&figures);
+    first + 1 + (second + 1 + rest)
+}
+
+fn put_row(buf: &mut [u8], at: usize, row: Row) -> usize
+    requires { ⌜ at + length (textLine (numbersOf row)) ≤ length (now buf) ⌝ }
+    ensures { λ r. ⌜ Put (now (buf .entry)) at (textLine (numbersOf row)) (now (buf .exit)) r ⌝ }
+{
+    let first = row.first;
+    let second = row.second;
+    let figures = row.figures;
+    let p = put_field(buf, at, first, b' ');
+    let q = put_field(buf, p, second, b' ');
+    put_line(buf, q, &figures)
 }

@@ -1,0 +1,32 @@
+-- The numbers of the lines of a report's text, and how long a line is. Assumes nothing.
+use mathlib.Core.Bool.{true}
+use mathlib.Core.List.{List, _∷_}
+use mathlib.Core.Path.{_≡_}
+use Prim.Native.Nat.{ℕ, _*_, _≤_}
+use lib.ListN.{length}
+use Rattle.meaning.specs.Register.{mostSources}
+use Rattle.meaning.specs.Report.{Entry, figures, totals, reportLength, reportYear, entryCount, entriesOf, wellFormed}
+use Rattle.meaning.specs.Text.{textLine}
+use Rattle.texts.specs.declared.Row.{Row}
+
+abbrev pub numbersOf : Row → List ℕ
+numbersOf r = r .first ∷ r .second ∷ r .figures
+
+-- a well-formed report, whose parts then stand within its bytes
+pub record Readable (b : List ℕ) : Type 0 where
+  pub right : wellFormed b ≡ true
+  pub filled : length b ≡ reportLength (entryCount b)
+  pub few : entryCount b ≤ mostSources
+
+-- "year, count and the four totals"
+unfoldable pub headNumbers : List ℕ → List ℕ
+headNumbers b = reportYear b ∷ length (entriesOf b) ∷ totals (entriesOf b)
+
+-- "number, method, CO2, CH4, N2O, equivalent"
+unfoldable pub entryNumbers : Entry → List ℕ
+entryNumbers e = e .number ∷ e .method ∷ figures e
+
+-- the line of these numbers is n bytes long, and each number has at most twenty digits
+pub record Measured (ns : List ℕ) (n : ℕ) : Type 0 where
+  pub is : n ≡ length (textLine ns)
+  pub small : n ≤ 21 * length ns
