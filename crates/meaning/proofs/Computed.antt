@@ -22,3 +22,4 @@ kinds = record { each = refl }
 pub byHand : ByHand
 unfolding opened
 byHand = record { sources = refl; register = refl; report = refl; entries = refl; written = refl; text = refl }
+    record { once = refl; dust = refl; shown = refl; refusal = refl; refused = refl; together = refl; apart = refl; name = refl; nameless = refl; names = refl; inBoth = refl }

@@ -3,3 +3,4 @@ pub mod Computed
 pub mod Laws
 pub mod Sources
 pub mod Reports
+pub mod Calls
