@@ -1,12 +1,13 @@
 -- The numbers of the lines of a report's text, and how long a line is. Assumes nothing.
 use mathlib.Core.Bool.{true}
-use mathlib.Core.List.{List, _∷_}
+use mathlib.Core.List.{List, _∷_, map}
 use mathlib.Core.Path.{_≡_}
 use Prim.Native.Nat.{ℕ, _*_, _≤_}
 use lib.ListN.{length}
+use Rattle.basis.specs.Lists.{joined}
 use Rattle.meaning.specs.Register.{mostSources}
-use Rattle.meaning.specs.Report.{Entry, figures, totals, reportLength, reportYear, entryCount, entriesOf, wellFormed}
-use Rattle.meaning.specs.Text.{textLine}
+use Rattle.meaning.specs.Report.{Entry, figures, totals, reportLength, reportYear, entryCount, entryAt, entryIn, entriesOf, wellFormed}
+use Rattle.meaning.specs.Text.{textLine, reportText}
 use Rattle.texts.specs.declared.Row.{Row}
 
 abbrev pub numbersOf : Row → List ℕ
@@ -30,3 +31,15 @@ entryNumbers e = e .number ∷ e .method ∷ figures e
 pub record Measured (ns : List ℕ) (n : ℕ) : Type 0 where
   pub is : n ≡ length (textLine ns)
   pub small : n ≤ 21 * length ns
+
+-- the line of entry i
+unfoldable pub entryLine : List ℕ → ℕ → List ℕ
+entryLine b i = textLine (entryNumbers (entryIn (entryAt b i)))
+
+-- "one line an entry"
+unfoldable pub entryLines : List ℕ → List ℕ
+entryLines b = joined (map (λ e. textLine (entryNumbers e)) (entriesOf b))
+
+-- the text of a report
+abbrev pub textOf : List ℕ → List ℕ
+textOf b = reportText (reportYear b) (entriesOf b)

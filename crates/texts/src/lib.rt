@@ -1,16 +1,18 @@
 // Document 01, "The report program": the text of a report, and the line of a refusal.
-ghost use mathlib.Core.List.{List, [], _∷_, _++_};
+ghost use mathlib.Core.List.{_∷_};
 ghost use mathlib.Core.Path.{_≡_};
 ghost use Prim.Native.Nat.{_+_, _*_, _^_, _≤_, _<_};
 ghost use lib.ListN.{length};
 ghost use Rattle.basis.specs.Answers.{Gives};
 ghost use Rattle.basis.specs.Bytes.{Written};
-ghost use Rattle.meaning.specs.Text.{decimal, textLine, reportText, refusedLine};
-ghost use Rattle.meaning.specs.Report.{figureCount, reportYear, entryCount, entryAt, entryIn, entriesOf};
+ghost use Rattle.meaning.specs.Text.{textLine, refusedLine};
+ghost use Rattle.meaning.specs.Report.{figureCount, entryCount, entryAt, entryIn};
+ghost use Rattle.meaning.specs.Calls.{text as Calls·text};
 ghost use Rattle.reports.specs.Figures.{figuresAt};
-ghost use Rattle.texts.specs.Rows.{Readable, Measured, numbersOf, headNumbers, entryNumbers};
+ghost use Rattle.texts.specs.Rows.{Readable, Measured, numbersOf, headNumbers, entryNumbers, entryLine, entryLines, textOf};
 ghost use Rattle.texts.specs.Digits.{Counted, Put, spelled, field};
 
+use basis::Answer;
 use reports::ENTRIES_AT;
 use reports::ENTRY_LENGTH;
 use reports::FIGURES;
@@ -176,4 +178,76 @@ fn put_row(buf: &mut [u8], at: usize, row: Row) -> usize
     let p = put_field(buf, at, first, b' ');
     let q = put_field(buf, p, second, b' ');
     put_line(buf, q, &figures)
+}
+
+// The length of a report's text, reckoned before anything is written.
+fn text_length(report: &[u8]) -> usize
+    requires { ⌜ Readable (now report) ⌝ }
+    ensures { λ r. ⌜ r ≡ length (textOf (now (report .entry))) ⌝ }
+{
+    let n = fields::u16_at(report, 8) as usize;
+    let mut total = row_length(head_row(report));
+    let mut i: usize = 0;
+    while i < n {
+        total += row_length(entry_row(report, i));
+        i += 1;
+    }
+    total
+}
+
+fn put_entry_line(report: &[u8], i: usize, buf: &mut [u8], at: usize) -> usize
+    requires { ⌜ Readable (now report) × (i < entryCount (now report)) × (at + length (entryLine (now report) i) ≤ length (now buf)) ⌝ }
+    ensures { λ r. ⌜ Put (now (buf .entry)) at (entryLine (now (report .entry)) i) (now (buf .exit)) r ⌝ }
+{
+    put_row(buf, at, entry_row(report, i))
+}
+
+// "then one line an entry"
+fn put_lines(report: &[u8], buf: &mut [u8], at: usize)
+    requires { ⌜ Readable (now report) × (at + length (entryLines (now report)) ≤ length (now buf)) ⌝ }
+    ensures { λ _. ⌜ Written (now (buf .entry)) at (entryLines (now (report .entry))) (now (buf .exit)) ⌝ }
+{
+    let n = fields::u16_at(report, 8) as usize;
+    let mut p = at;
+    let mut i: usize = 0;
+    while i < n {
+        p = put_entry_line(report, i, buf, p);
+        i += 1;
+    }
+}
+
+fn put_text(report: &[u8], buf: &mut [u8])
+    requires { ⌜ Readable (now report) × (length (textOf (now report)) ≤ length (now buf)) ⌝ }
+    ensures { λ _. ⌜ Written (now (buf .entry)) 0 (textOf (now (report .entry))) (now (buf .exit)) ⌝ }
+{
+    let at = put_row(buf, 0, head_row(report));
+    put_lines(report, buf, at);
+}
+
+// The text of a report at the front of a buffer: 9 with place 1, then 8 with the length needed.
+pub fn text(report: &[u8], buffer: &mut [u8]) -> Answer
+    ensures { λ r. ⌜ Gives (Calls·text (now (report .entry)) (now (buffer .entry))) r (now (buffer .exit)) ⌝ }
+{
+    let right = reports::is_well_formed(report);
+    if right {
+        let needed = text_length(report);
+        if buffer.len() < needed {
+            return Answer {
+                number: 8,
+                place: needed as u64,
+                length: 0,
+            };
+        }
+        put_text(report, buffer);
+        return Answer {
+            number: 0,
+            place: 0,
+            length: needed as u64,
+        };
+    }
+    Answer {
+        number: 9,
+        place: 1,
+        length: 0,
+    }
 }

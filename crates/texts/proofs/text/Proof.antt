@@ -1,0 +1,16 @@
+use borrow.Author.Needs.{needs}
+use Rattle.texts.proofs.Texts.{readable, text-short, text-made, text-wrong}
+use Rattle.texts.proofs.text.Statement.{statement}
+use Rattle.texts.proofs.text.Tie as tie
+
+pub text-spec : {M : Type 1} → statement M
+text-spec =
+    tie.close
+    (tie.spec
+    (search needs)
+    (λ c κs. search (needs, readable))
+    (λ c. search (needs, text-short))
+    (λ c κs. search (needs, readable))
+    (λ c. search needs)
+    (λ c. search (needs, text-made))
+    (λ c. search (needs, text-wrong)))
