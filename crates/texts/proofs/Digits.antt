@@ -5,6 +5,7 @@ use mathlib.Core.Path.{_≡_, refl, sym, ap, _∙_}
 use Prim.Native.Nat.{ℕ, zero, suc, _+_, _*_, _-_, _/_, _%_, _^_, _≤_, _<_}
 use native.Mathlib.Nat.{add-zero, sub-zero, pow-suc}
 use native.Mathlib.Numerals.{add-one}
+use native.Mathlib.Decide.{decLt}
 use native.Mathlib.Omega.{arith}
 use borrow.Author.Needs.{needs}
 use borrow.Author.Tests.{lt-ltb, le-ltb, eqb-true}
@@ -49,6 +50,21 @@ digits-spelled (suc k) (suc fuel) n f l h =
     let g : 10 ^ suc (suc k) ≡ 10 ^ suc k * 10 = pow-suc 10 (suc k) in
     let p : 0 < 10 ^ k = tens-above-zero k in
     rw (more-digits fuel n (omega arith), digits-spelled k fuel (n / 10) (omega arith) (omega arith) (λ q. omega arith))
+
+-- no number of 64 bits has more than twenty digits
+digits-few : (k fuel n : ℕ) → n < 10 ^ suc k → length (digits fuel n) ≤ suc k
+unfolding digits
+digits-few zero fuel n l = rw (one-digit fuel n (omega (arith, rw (pow-suc 10 0) at l)), length-spelled 1 n) (omega arith)
+digits-few (suc k) zero n l = omega arith
+digits-few (suc k) (suc fuel) n l = by (decLt n 10) (digits-few k fuel (n / 10) (omega (arith, rw (pow-suc 10 (suc k)) at l)))
+  where
+    by : Dec (n < 10) → length (digits fuel (n / 10)) ≤ suc k → length (digits (suc fuel) n) ≤ suc (suc k)
+    by (yes s) h = rw (one-digit (suc fuel) n s, length-spelled 1 n) (omega arith)
+    by (no s) h = rw (more-digits fuel n (omega arith), length-append) (omega arith)
+
+pub decimal-few : (n : ℕ) → Fits w64 n → length (decimal n) ≤ 20
+unfolding decimal
+decimal-few n f = digits-few 19 n n (omega (arith, f .fits))
 
 -- so many powers of ten, from one on
 abbrev powersFrom : ℕ → ℕ → List ℕ

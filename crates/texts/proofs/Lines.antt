@@ -4,15 +4,17 @@ use mathlib.Core.Path.{_≡_, refl, sym, ap, _∙_}
 use Prim.Native.Nat.{ℕ, zero, suc, _+_, _*_, _-_, _≤_, _<_}
 use native.Mathlib.Numerals.{add-one}
 use native.Mathlib.Omega.{arith}
+use mir.Syntax.{w32, w64}
+use mir.Val.{Fits}
 use borrow.Author.Needs.{needs}
 use lib.ListN.{length, getD, drop, set, length-append, drop-of-length-le}
-use lib.Seq.{set-split, drop-cons}
-use Rattle.basis.specs.Bytes.{splice, Written}
+use lib.Seq.{set-split, drop-cons, length-take-le}
+use Rattle.basis.specs.Bytes.{ascii, splice, Written}
 use Rattle.basis.proofs.Bytes.{written-then, length-written}
-use Rattle.meaning.specs.Text.{decimal, textLine}
+use Rattle.meaning.specs.Text.{decimal, textLine, refusedLine}
 use Rattle.fields.proofs.Laws.{Writing, writing-none, writing-then, writing-last}
-use Rattle.texts.specs.Digits.{spelled, Counted, field, Put}
-use Rattle.texts.proofs.Digits.{length-spelled}
+use Rattle.texts.specs.Digits.{spelled, Counted, field, Put, Fronted}
+use Rattle.texts.proofs.Digits.{length-spelled, decimal-few}
 
 -- a byte that is stored is written
 written-one : (xs : List ℕ) (at x : ℕ) → at < length xs → Written xs at (x ∷ []) (set xs at x)
@@ -83,3 +85,32 @@ module _ {bs₀ : List ℕ} {at : ℕ} {ns bs : List ℕ} {p k : ℕ} (l : Linin
         record { written = writing-last (rw e at (l .left)) (w .written); ends = omega (arith, w .ends, ap length e, l .left .end) }
 
 pub ruleset lining = (needs, lining-none, lining-room, lining-more, lining-room-last, lining-all)
+
+-- the line of a refusal: its word, its number, its place
+module _ (number place : ℕ) {xs ys : List ℕ} (n : Fits w32 number) (p : Fits w64 place) (e : length xs ≡ 50) (w : Written xs 0 (ascii "refused ") ys) where
+  field-few : (m after : ℕ) → Fits w64 m → length (field m after) ≤ 21
+  field-few m after f = omega (arith, length-field m after, decimal-few m f)
+
+  number-fits : Fits w64 number
+  number-fits = record { fits = omega (arith, n .fits) }
+
+  pub number-room : 8 + length (field number 32) ≤ length ys
+  number-room = omega (arith, field-few number 32 number-fits, length-written w)
+
+  module _ {zs : List ℕ} {at : ℕ} (f : Put ys 8 (field number 32) zs at) where
+    pub place-room : at + length (field place 10) ≤ length zs
+    place-room = omega (arith, field-few number 32 number-fits, field-few place 10 p, f .ends, length-written w, length-written (f .written))
+
+    refusal-parts : ascii "refused " ++ (field number 32 ++ field place 10) ≡ refusedLine number place
+    unfolding refusedLine textLine field
+    refusal-parts = rw (append-assoc (decimal number) (32 ∷ []) (decimal place ++ (10 ∷ [])))
+
+    pub refusal-put : {us : List ℕ} {r : ℕ} → Put zs at (field place 10) us r → Fronted xs (refusedLine number place) us r
+    refusal-put {us} {r} g =
+        let v : Written xs 0 (refusedLine number place) us = rw refusal-parts at (written-then w (written-then (f .written) (g .written) (f .ends)) refl) in
+        let c : r ≡ length (refusedLine number place) =
+        omega (arith, f .ends, g .ends, ap length refusal-parts, length-append (field number 32) (field place 10)) in
+        let l : r ≤ length us = omega (arith, v .fits, length-written v) in
+        record { written = v; count = c; within = l; part = sym (length-take-le r us l) }
+
+pub ruleset refusing = (needs, number-room, place-room, refusal-put)

@@ -2,7 +2,7 @@
 use mathlib.Core.List.{List, [], _∷_, _++_}
 use mathlib.Core.Path.{_≡_}
 use Prim.Native.Nat.{ℕ, zero, suc, _+_, _/_, _%_, _≤_}
-use lib.ListN.{length}
+use lib.ListN.{length, take}
 use Rattle.basis.specs.Bytes.{Written}
 use Rattle.meaning.specs.Text.{digit, decimal}
 
@@ -25,3 +25,10 @@ field n after = decimal n ++ (after ∷ [])
 pub record Put (xs : List ℕ) (at : ℕ) (ys zs : List ℕ) (end : ℕ) : Type 0 where
   pub written : Written xs at ys zs
   pub ends : end ≡ at + length ys
+
+-- ys is written over the front of xs, and is n bytes long. The last two say so of the part that a program then lends on.
+pub record Fronted (xs ys zs : List ℕ) (n : ℕ) : Type 0 where
+  pub written : Written xs 0 ys zs
+  pub count : n ≡ length ys
+  pub within : n ≤ length zs
+  pub part : n ≡ length (take n zs)

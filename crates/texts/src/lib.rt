@@ -10,8 +10,7 @@ ghost use Rattle.meaning.specs.Report.{figureCount, entryCount, entryAt, entryI
 ghost use Rattle.meaning.specs.Calls.{text as Calls·text};
 ghost use Rattle.reports.specs.Figures.{figuresAt};
 ghost use Rattle.texts.specs.Rows.{Readable, Measured, numbersOf, headNumbers, entryNumbers, entryLine, entryLines, textOf};
-ghost use Rattle.texts.specs.Digits.{Counted, Put, spelled, field};
-
+ghost use Rattle.texts.specs.Digits.{Counted, Put, Fronted, spelled, field};
 use basis::Answer;
 use reports::ENTRIES_AT;
 use reports::ENTRY_LENGTH;
@@ -250,4 +249,13 @@ pub fn text(report: &[u8], buffer: &mut [u8]) -> Answer
         place: 1,
         length: 0,
     }
+}
+
+// "A refusal is the line `refused`, number, place": two numbers of at most twenty digits always fit. Answers how long the line is.
+pub fn refused_line(number: u32, place: u64, line: &mut [u8; 50]) -> usize
+    ensures { λ r. ⌜ Fronted (now (line .entry)) (refusedLine number place) (now (line .exit)) r ⌝ }
+{
+    fields::put_bytes(line, 0, b"refused ");
+    let at = put_field(line, 8, number as u64, b' ');
+    put_field(line, at, place, b'\n')
 }
