@@ -5,17 +5,19 @@ use mathlib.Core.Path.{_≡_, refl, sym, ap, _∙_}
 use Prim.Native.Nat.{ℕ, zero, suc, _+_, _*_, _≤_, _<_, zero-le}
 use native.Mathlib.Nat.{zero-add, not-suc-le-zero, le-of-suc-le-suc, mul-le-mul-right}
 use native.Mathlib.Omega.{arith}
-use lib.ListN.{length, getD, length-append, length-map}
+use lib.ListN.{length, getD, take, drop, replicate, length-append, length-drop, length-map}
+use lib.Seq.{take-add}
 use borrow.Author.Tests.{ltb-false, leb-true, leb-false, eqb-true, not-true, not-false}
-use Rattle.basis.specs.Bytes.{numberAt, startsWith}
+use Rattle.basis.specs.Bytes.{numberAt, packed, Bytes, startsWith}
 use Rattle.basis.specs.Lists.{Each, sum, countUp}
 use Rattle.basis.proofs.Bools.{and-true, or-false}
 use Rattle.basis.proofs.Counting.{counted-none, getD-counted, counted-list}
 use Rattle.basis.proofs.Lists.{length-countUp}
+use Rattle.basis.proofs.Rows.{numberAt-drop, unpacked, unpacked-same, packed-unpacked, bytes-drop}
 use Rattle.meaning.specs.Methods.{within}
 use Rattle.meaning.specs.Masses.{gasCount, gases, warming, weighed, equivalent, limit}
 use Rattle.meaning.specs.Register.{mostSources}
-use Rattle.meaning.specs.Report.{Entry, figures, figureCount, figure, totals, reportTag, reportLayout, entriesAt, reportLength, reportYear, entryCount, totalAt, entryAt, figureIn, entryIn, entriesOf, headerRight, numberBefore, wrongEntry, wrongTotal, wellFormed}
+use Rattle.meaning.specs.Report.{Entry, figures, figureCount, figure, totals, reportTag, reportLayout, entriesAt, entryLength, reportLength, entryBytes, reportYear, entryCount, totalAt, entryAt, figureIn, entryIn, entriesOf, headerRight, numberBefore, wrongEntry, wrongTotal, wellFormed}
 
 -- what a right header says
 pub record Headed (b : List ℕ) : Type 0 where
@@ -132,6 +134,28 @@ figures-read r e = rw (← e)
 pub figure-read : (r : List ℕ) → figureIn r gasCount ≡ equivalent (entryIn r .masses) → (k : ℕ) → k < figureCount → figure k (entryIn r) ≡ figureIn r k
 unfolding figure
 figure-read r e k l = rw (figures-read r e) (getD-counted (figureIn r) 0 figureCount 0 k l ∙ ap (figureIn r) (zero-add k))
+
+-- an entry that is read and written again is what stood there
+abbrev frontWidths : List ℕ
+frontWidths = 4 ∷ 1 ∷ 3 ∷ []
+
+module _ (r : List ℕ) (zeros : numberAt 3 r 5 ≡ 0) (right : figureIn r gasCount ≡ equivalent (entryIn r .masses)) where
+  front-again : unpacked frontWidths r ≡ (entryIn r .number ∷ entryIn r .method ∷ 0 ∷ [])
+  unfolding unpacked entryIn
+  front-again = simp (numberAt-drop, zeros)
+
+  figures-again : unpacked (replicate figureCount 8) (drop 8 r) ≡ figures (entryIn r)
+  figures-again = unpacked-same 8 8 r figureCount 0 ∙ sym (figures-read r right)
+
+  pub entry-again : Bytes r → entryLength ≤ length r → entryBytes (entryIn r) ≡ take entryLength r
+  unfolding entryBytes sum
+  entry-again h l =
+      let k : 8 ≤ length r = omega arith in
+      let m : 32 ≤ length (drop 8 r) = rw length-drop (omega arith) in
+      let f : packed frontWidths (entryIn r .number ∷ entryIn r .method ∷ 0 ∷ []) ≡ take 8 r = rw (← front-again) (packed-unpacked frontWidths r h k) in
+      let g : packed (replicate figureCount 8) (figures (entryIn r)) ≡ take 32 (drop 8 r) =
+      rw (← figures-again) (packed-unpacked (replicate figureCount 8) (drop 8 r) (bytes-drop 8 r h) m) in
+      rw (f, g) (sym (take-add 8 32 r))
 
 -- Totals, and how they are read.
 pub length-totals : (es : List Entry) → length (totals es) ≡ figureCount

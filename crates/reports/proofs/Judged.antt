@@ -14,9 +14,9 @@ use Rattle.meaning.specs.Methods.{within}
 use Rattle.meaning.specs.Register.{mostSources}
 use Rattle.meaning.specs.Report.{figureCount, reportTag, entriesAt, reportLength, entryCount, headerRight, wrongEntry, wrongTotal, wellFormed}
 use Rattle.meaning.specs.Calls.{checked}
-use Rattle.meaning.proofs.Reports.{headed}
+use Rattle.meaning.proofs.Reports.{headed, formed}
 use Rattle.fields.specs.Fields.{Field}
-use Rattle.reports.specs.Stated.{frontRight}
+use Rattle.reports.specs.Stated.{Readable, frontRight}
 
 module _ (b : List ℕ) where
   pub front-judged : {n layout year : ℕ} {tagged : Bool} → (entriesAt ≤ length b) × (n ≡ entryCount b) × (n < 65536) → tagged ≡ startsWith reportTag b
@@ -51,6 +51,12 @@ module _ (b : List ℕ) where
       pub entries-judged : {r : Bool} → r ≡ not (any (wrongEntry b) (countUp 0 n)) && not (any (wrongTotal b) (countUp 0 figureCount)) → r ≡ wellFormed b
       unfolding wellFormed
       entries-judged j = rw (← e, t, ← f .is) j
+
+  -- a report that was judged right can be read
+  pub readable : {right : Bool} → right ≡ wellFormed b → right ≡ true → Readable b
+  readable e t =
+      let w : wellFormed b ≡ true = sym e ∙ t in
+      record { right = w; filled = formed b w .header .filled; few = formed b w .header .few }
 
   pub report-right : {right : Bool} → right ≡ wellFormed b → right ≡ true → record { number = 0; place = 0; length = length b } ≡ checked b
   unfolding checked

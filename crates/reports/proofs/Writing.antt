@@ -6,15 +6,16 @@ use native.Mathlib.Nat.{add-assoc, add-zero}
 use native.Mathlib.Numerals.{add-one}
 use native.Mathlib.Omega.{arith}
 use borrow.Author.Needs.{needs}
-use lib.ListN.{length, getD, drop, replicate, length-append, drop-of-length-le}
-use lib.Seq.{drop-cons}
-use Rattle.basis.specs.Bytes.{bytesOf, packed, Written}
+use lib.ListN.{length, getD, take, drop, replicate, length-append, length-drop, drop-of-length-le}
+use lib.Seq.{drop-cons, length-take-le}
+use Rattle.basis.specs.Bytes.{bytesOf, packed, Bytes, splice, Written}
 use Rattle.basis.proofs.Bytes.{length-bytesOf, written-then}
+use Rattle.basis.proofs.Rows.{bytes-drop}
 use Rattle.meaning.specs.Masses.{gasCount}
-use Rattle.meaning.specs.Report.{Entry, figures, totals, reportTag, reportLayout, entriesAt, reportLength, reportHeader, entryBytes}
-use Rattle.meaning.proofs.Reports.{length-figures, length-totals}
+use Rattle.meaning.specs.Report.{Entry, figures, totals, reportTag, reportLayout, entriesAt, entryLength, reportLength, reportHeader, entryBytes, entryCount, entryAt, entryIn}
+use Rattle.meaning.proofs.Reports.{formed, length-figures, entry-again, length-totals}
 use Rattle.fields.proofs.Laws.{Writing, writing-none, writing-then, writing-all}
-use Rattle.reports.specs.Stated.{figureBytes, statedEntry, statedFront, statedHeader}
+use Rattle.reports.specs.Stated.{Readable, figureBytes, statedEntry, statedFront, statedHeader}
 
 same-bytes : {xs ys us zs : List ℕ} {at : ℕ} → ys ≡ us → Written xs at ys zs → Written xs at us zs
 same-bytes e w = rw (← e) w
@@ -93,3 +94,24 @@ entry-stated e g = ap (λ (n : ℕ). packed (4 ∷ 1 ∷ 3 ∷ []) (e .number �
 pub header-stated : (year : ℕ) (es : List Entry) → statedHeader year (length es) (totals es) ≡ reportHeader year es
 unfolding statedHeader statedFront figureBytes reportHeader
 header-stated year es = ap (λ (n : ℕ). statedFront year (length es) ++ packed (replicate n 8) (totals es)) (length-totals es)
+
+-- an entry that is copied as it stands
+module _ (b : List ℕ) (i : ℕ) (h : Bytes b) (r : Readable b) (l : i < entryCount b) where
+  entry-room : entryLength ≤ length (entryAt b i)
+  entry-room = rw (length-drop (entriesAt + entryLength * i) b) (omega (arith, r .filled))
+
+  entry-stands : entryBytes (entryIn (entryAt b i)) ≡ take entryLength (entryAt b i)
+  entry-stands =
+      let e = formed b (r .right) .entry i l in
+      entry-again (entryAt b i) (e .zeros) (e .right) (bytes-drop (entriesAt + entryLength * i) b h) entry-room
+
+  pub entry-carried : {spare₀ spare xs ys : List ℕ} {at : ℕ} → length spare₀ ≡ entryLength
+      → Written spare₀ 0 (take (entriesAt + entryLength * i + entryLength - (entriesAt + entryLength * i)) (entryAt b i)) spare → Written xs at spare ys
+      → Written xs at (entryBytes (entryIn (entryAt b i))) ys
+  unfolding splice
+  entry-carried {spare₀} {spare} z w v =
+      let q : entriesAt + entryLength * i + entryLength - (entriesAt + entryLength * i) ≡ entryLength = omega arith in
+      let u : Written spare₀ 0 (take entryLength (entryAt b i)) spare = rw q at w in
+      let n : length (take entryLength (entryAt b i)) ≡ entryLength = length-take-le entryLength (entryAt b i) entry-room in
+      let s : spare ≡ take entryLength (entryAt b i) = u .is ∙ rw (n, drop-of-length-le spare₀ {i = 0 + entryLength} (omega arith)) (append-nil (take entryLength (entryAt b i))) in
+      same-bytes (s ∙ sym entry-stands) v

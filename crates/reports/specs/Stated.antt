@@ -1,13 +1,20 @@
 -- The parts of a report as their numbers are stated, and what is wrong with an entry's equivalent. Assumes nothing.
-use mathlib.Core.Bool.{Bool, not, _&&_, _||_}
+use mathlib.Core.Bool.{Bool, true, not, _&&_, _||_}
 use mathlib.Core.List.{List, [], _∷_, _++_}
-use Prim.Native.Nat.{ℕ}
+use mathlib.Core.Path.{_≡_}
+use Prim.Native.Nat.{ℕ, _≤_}
 use lib.Dec.{eqb, ltb, leb}
 use lib.ListN.{length, replicate}
 use Rattle.basis.specs.Bytes.{numberAt, packed, startsWith}
 use Rattle.meaning.specs.Masses.{gasCount, equivalent, limit}
 use Rattle.meaning.specs.Register.{isYear, mostSources}
-use Rattle.meaning.specs.Report.{reportTag, reportLayout, entriesAt, reportLength, reportYear, entryCount, figureIn, entryIn}
+use Rattle.meaning.specs.Report.{reportTag, reportLayout, entriesAt, reportLength, reportYear, entryCount, figureIn, entryIn, wellFormed}
+
+-- a well-formed report, whose parts then stand within its bytes
+pub record Readable (b : List ℕ) : Type 0 where
+  pub right : wellFormed b ≡ true
+  pub filled : length b ≡ reportLength (entryCount b)
+  pub few : entryCount b ≤ mostSources
 
 -- figures, eight bytes each
 unfoldable pub figureBytes : List ℕ → List ℕ

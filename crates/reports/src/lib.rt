@@ -7,11 +7,11 @@ ghost use lib.ListN.{length, drop};
 ghost use Rattle.basis.specs.Bytes.{Written, packed};
 ghost use Rattle.basis.specs.Lists.{any, countUp};
 ghost use Rattle.meaning.specs.Register.{mostSources};
-ghost use Rattle.meaning.specs.Report.{figureCount, reportTag, reportLayout, entriesAt, entryLength, reportLength, entryCount, entryIn, entriesOf, headerRight, numberBefore, wrongEntry, wrongTotal, wellFormed};
+ghost use Rattle.meaning.specs.Report.{figureCount, reportTag, reportLayout, entriesAt, entryLength, reportLength, entryBytes, entryCount, entryAt, entryIn, entriesOf, headerRight, numberBefore, wrongEntry, wrongTotal, wellFormed};
 ghost use Rattle.meaning.specs.Report.{totals as Report·totals};
 ghost use Rattle.meaning.specs.Calls.{checked};
 ghost use Rattle.reports.specs.Figures.{figuresAt, addedAt, Addable};
-ghost use Rattle.reports.specs.Stated.{figureBytes, statedEntry, statedFront, statedHeader, wrongEquivalent, frontRight};
+ghost use Rattle.reports.specs.Stated.{Readable, figureBytes, statedEntry, statedFront, statedHeader, wrongEquivalent, frontRight};
 use basis::Answer;
 use exact::GASES;
 use exact::Weighed;
@@ -259,4 +259,16 @@ pub fn put_header(buf: &mut [u8], year: u64, n: u64, totals: &[u64])
 {
     put_header_front(buf, year, n);
     put_figures(buf, 24, totals);
+}
+
+// An entry as it stands, carried to its place in another report by way of a spare array.
+pub fn carry_entry(from: &[u8], i: usize, to: &mut [u8], at: usize)
+    requires { ⌜ Readable (now from) × (i < entryCount (now from)) × (at + entryLength ≤ length (now to)) ⌝ }
+    ensures { λ _. ⌜ Written (now (to .entry)) at (entryBytes (entryIn (entryAt (now (from .entry)) i))) (now (to .exit)) ⌝ }
+{
+    let mut spare = [0u8; ENTRY_LENGTH];
+    let start = ENTRIES_AT + ENTRY_LENGTH * i;
+    let end = start + ENTRY_LENGTH;
+    fields::put_bytes(&mut spare, 0, &from[start..end]);
+    fields::put_bytes(to, at, &spare);
 }

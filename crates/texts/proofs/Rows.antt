@@ -18,9 +18,10 @@ use Rattle.meaning.specs.Text.{decimal, textLine}
 use Rattle.meaning.proofs.Reports.{formed, count-is, figures-read, totals-read}
 use Rattle.fields.specs.Fields.{Field}
 use Rattle.reports.specs.Figures.{figuresAt}
+use Rattle.reports.specs.Stated.{Readable}
 use Rattle.reports.proofs.Entries.{figures-drop}
 use Rattle.texts.specs.Digits.{Counted, field, Put}
-use Rattle.texts.specs.Rows.{Readable, Measured, headNumbers, entryNumbers}
+use Rattle.texts.specs.Rows.{Measured, headNumbers, entryNumbers}
 
 -- the bytes of fields, each with the byte behind it
 unfoldable pub spans : List ℕ → ℕ

@@ -19,11 +19,12 @@ use Rattle.meaning.specs.Report.{figureCount, totals, entryCount, entryAt, entr
 use Rattle.meaning.specs.Text.{textLine, reportText}
 use Rattle.meaning.specs.Calls.{formTest, text}
 use Rattle.meaning.proofs.Calls.{refused-gives, short-gives, made-gives}
-use Rattle.meaning.proofs.Reports.{formed, length-masses, length-figures, length-totals}
+use Rattle.meaning.proofs.Reports.{length-masses, length-figures, length-totals}
 use Rattle.fields.specs.Fields.{Field}
 use Rattle.fields.proofs.Laws.{Writing, writing-none, writing-then, writing-all}
+use Rattle.reports.specs.Stated.{Readable}
 use Rattle.texts.specs.Digits.{Put}
-use Rattle.texts.specs.Rows.{Readable, Measured, headNumbers, entryNumbers, entryLine, entryLines, textOf}
+use Rattle.texts.specs.Rows.{Measured, headNumbers, entryNumbers, entryLine, entryLines, textOf}
 
 -- the lines of the entries from i on
 unfoldable pub linesFrom : List ℕ → ℕ → List ℕ
@@ -141,11 +142,6 @@ module _ (b buf : List ℕ) {ns : List ℕ} (h : Readable b × (length (textOf b
 
 module _ (b : List ℕ) {right : Bool} (e : right ≡ wellFormed b) where
   module _ (t : right ≡ true) where
-    pub readable : Readable b
-    readable =
-        let w : wellFormed b ≡ true = sym e ∙ t in
-        record { right = w; filled = formed b w .header .filled; few = formed b w .header .few }
-
     passed : firstRefusal (formTest b 1 ∷ []) ≡ Passes
     unfolding firstRefusal
     passed = rw (← e, t)

@@ -1,23 +1,15 @@
 -- The numbers of the lines of a report's text, and how long a line is. Assumes nothing.
-use mathlib.Core.Bool.{true}
 use mathlib.Core.List.{List, _∷_, map}
 use mathlib.Core.Path.{_≡_}
 use Prim.Native.Nat.{ℕ, _*_, _≤_}
 use lib.ListN.{length}
 use Rattle.basis.specs.Lists.{joined}
-use Rattle.meaning.specs.Register.{mostSources}
-use Rattle.meaning.specs.Report.{Entry, figures, totals, reportLength, reportYear, entryCount, entryAt, entryIn, entriesOf, wellFormed}
+use Rattle.meaning.specs.Report.{Entry, figures, totals, reportYear, entryAt, entryIn, entriesOf}
 use Rattle.meaning.specs.Text.{textLine, reportText}
 use Rattle.texts.specs.declared.Row.{Row}
 
 abbrev pub numbersOf : Row → List ℕ
 numbersOf r = r .first ∷ r .second ∷ r .figures
-
--- a well-formed report, whose parts then stand within its bytes
-pub record Readable (b : List ℕ) : Type 0 where
-  pub right : wellFormed b ≡ true
-  pub filled : length b ≡ reportLength (entryCount b)
-  pub few : entryCount b ≤ mostSources
 
 -- "year, count and the four totals"
 unfoldable pub headNumbers : List ℕ → List ℕ

@@ -1,5 +1,6 @@
 use borrow.Author.Needs.{needs}
-use Rattle.texts.proofs.Texts.{readable, text-short, text-made, text-wrong}
+use Rattle.reports.proofs.Judged.{readable}
+use Rattle.texts.proofs.Texts.{text-short, text-made, text-wrong}
 use Rattle.texts.proofs.text.Statement.{statement}
 use Rattle.texts.proofs.text.Tie as tie
 
