@@ -24,20 +24,12 @@ pub struct Answer {
 impl Answer {
     /// "Acceptance is 0, place 0 and the report's length."
     pub fn accepted(length: usize) -> Answer {
-        Answer {
-            number: 0,
-            place: 0,
-            length: length as u64,
-        }
+        Answer { number: 0, place: 0, length: length as u64 }
     }
 
     /// "A refusal has length 0."
     pub fn refused(refusal: Refusal) -> Answer {
-        Answer {
-            number: refusal.number,
-            place: refusal.place,
-            length: 0,
-        }
+        Answer { number: refusal.number, place: refusal.place, length: 0 }
     }
 }
 

@@ -3,10 +3,7 @@
 /// The number in the `width` bytes from `place` on, lowest byte first.
 pub fn number_at(bytes: &[u8], place: usize, width: usize) -> u64 {
     let field = &bytes[place..place + width];
-    field
-        .iter()
-        .rev()
-        .fold(0, |number, &byte| number << 8 | u64::from(byte))
+    field.iter().rev().fold(0, |number, &byte| number << 8 | u64::from(byte))
 }
 
 /// Puts the lowest `width` bytes of a number behind what is there.

@@ -39,14 +39,7 @@ pub const FILL: u8 = 0xAA;
 
 impl Call {
     fn of(entry: Entry, first: &[u8], second: &[u8], number: u32, room: usize) -> Call {
-        Call {
-            entry,
-            first: first.to_vec(),
-            second: second.to_vec(),
-            number,
-            room,
-            fill: FILL,
-        }
+        Call { entry, first: first.to_vec(), second: second.to_vec(), number, room, fill: FILL }
     }
 
     pub fn calculate(register: &[u8], room: usize) -> Call {

@@ -43,9 +43,7 @@ pub fn text(report: &[u8], buffer: &mut [u8]) -> Answer {
 /// empty part at the front of the register where 1 to 4 refuse it, where the number is absent."
 pub fn name(register: &[u8], number: u32) -> (u64, u64) {
     let found = Register::read(register).ok();
-    found
-        .and_then(|register| register.name_place(number))
-        .unwrap_or((0, 0))
+    found.and_then(|register| register.name_place(number)).unwrap_or((0, 0))
 }
 
 /// "Over two registers, the plant's and its contractor's, the name is a part of whichever register holds the number": 1 or 2,
@@ -78,11 +76,7 @@ pub fn refused_line(number: u32, place: u64) -> Vec<u8> {
 fn calculated(register: &[u8]) -> Result<Report, Refusal> {
     let register = Register::read(register)?;
     test_lines(&register)?;
-    let entries = register
-        .sources
-        .iter()
-        .enumerate()
-        .map(|(index, source)| entry_of(&register, index, source));
+    let entries = register.sources.iter().enumerate().map(|(index, source)| entry_of(&register, index, source));
     let entries: Result<Vec<Entry>, Refusal> = entries.collect();
     Ok(Report::of(register.year, entries?))
 }
@@ -104,11 +98,7 @@ fn test_lines(register: &Register) -> Result<(), Refusal> {
 fn entry_of(register: &Register, index: usize, source: &Source) -> Result<Entry, Refusal> {
     let masses = masses_of(source.method, source.parameter, register.lines_of(source))
         .map_err(|unfit| Refusal::new(unfit.refusal_number(), index as u64))?;
-    Ok(Entry {
-        number: source.number,
-        method: source.method,
-        masses,
-    })
+    Ok(Entry { number: source.number, method: source.method, masses })
 }
 
 /// 9: "a report is not well-formed", place "1 or 2, which one; 1 if only one is lent".

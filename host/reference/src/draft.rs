@@ -24,14 +24,7 @@ pub struct Draft {
 
 /// A line, in the order of document 01's fields.
 pub fn line(kind: u8, unit: u8, code: u16, a: u32, b: u32, quantity: u64) -> Line {
-    Line {
-        kind,
-        unit,
-        code,
-        a,
-        b,
-        quantity,
-    }
+    Line { kind, unit, code, a, b, quantity }
 }
 
 /// "Fuel, solid, Q 1,000,000, A 800,000, B 10,000: 2,931,200,000 g."
@@ -40,13 +33,7 @@ pub fn boiler_line() -> Line {
 }
 
 pub fn source(number: u32, method: u8, parameter: u8, lines: &[Line]) -> DraftSource {
-    DraftSource {
-        number,
-        method,
-        parameter,
-        name: b"Boiler DE-25".to_vec(),
-        lines: lines.to_vec(),
-    }
+    DraftSource { number, method, parameter, name: b"Boiler DE-25".to_vec(), lines: lines.to_vec() }
 }
 
 pub fn boiler(number: u32) -> DraftSource {
@@ -59,11 +46,7 @@ pub fn boilers(numbers: &[u32]) -> Draft {
 }
 
 pub fn register(year: u16, sources: Vec<DraftSource>) -> Draft {
-    Draft {
-        year,
-        sources,
-        ..Draft::default()
-    }
+    Draft { year, sources, ..Draft::default() }
 }
 
 impl DraftSource {
@@ -104,13 +87,7 @@ impl Draft {
         append(&mut bytes, 2, u64::from(self.year));
         append(&mut bytes, 2, self.sources.len() as u64);
         append(&mut bytes, 2, lines as u64);
-        for number in [
-            name_bytes,
-            HEADER_BYTES,
-            lines_at,
-            names_at,
-            names_at + name_bytes,
-        ] {
+        for number in [name_bytes, HEADER_BYTES, lines_at, names_at, names_at + name_bytes] {
             append(&mut bytes, 4, number as u64);
         }
         bytes

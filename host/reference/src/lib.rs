@@ -10,6 +10,7 @@ pub mod answers;
 pub mod bytes;
 pub mod call;
 pub mod calls;
+pub mod cases;
 pub mod draft;
 pub mod masses;
 pub mod methods;

@@ -63,13 +63,8 @@ pub fn masses_of(method: u8, parameter: u8, lines: &[Line]) -> Result<Masses, Un
 
 /// "The exact sum of a source's lines for one gas."
 fn exact_sum(method: u8, parameter: u8, lines: &[Line], gas: Gas) -> i128 {
-    let contributions = lines
-        .iter()
-        .filter_map(|line| contribution(method, parameter, line));
-    contributions
-        .filter(|&(line_gas, _)| line_gas == gas)
-        .map(|(_, amount)| amount)
-        .sum()
+    let contributions = lines.iter().filter_map(|line| contribution(method, parameter, line));
+    contributions.filter(|&(line_gas, _)| line_gas == gas).map(|(_, amount)| amount).sum()
 }
 
 /// "rounded once to whole grams, nearest, an exact half upward"; the exact grams are `sum` / `per_gram`.

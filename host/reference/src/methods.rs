@@ -108,9 +108,7 @@ impl Line {
 
 /// "method and parameter (1 each, a pair listed under the methods)"
 pub fn is_listed(method: u8, parameter: u8) -> bool {
-    TABLE
-        .iter()
-        .any(|row| row.method == method && row.parameters.contains(&parameter))
+    TABLE.iter().any(|row| row.method == method && row.parameters.contains(&parameter))
 }
 
 /// What a line adds to which gas; nothing where it "breaks its ranges or is wrong for its method". "An accepted line is of
@@ -119,20 +117,14 @@ pub fn contribution(method: u8, parameter: u8, line: &Line) -> Option<(Gas, i128
     if !is_in_range(line) {
         return None;
     }
-    let row = TABLE
-        .iter()
-        .find(|row| row.takes(method, parameter, line))?;
+    let row = TABLE.iter().find(|row| row.takes(method, parameter, line))?;
     Some((row.gas, (row.adds)(line, parameter)))
 }
 
 /// "Q is 0 to 10,000,000,000. .. A is in millionths: at most 1,000,000 where the unit is tonne, else at most 99,999,999. B
 /// is in ten-thousandths, 0 to 10,000."
 fn is_in_range(line: &Line) -> bool {
-    let most_a = if line.unit == 1 {
-        1_000_000
-    } else {
-        99_999_999
-    };
+    let most_a = if line.unit == 1 { 1_000_000 } else { 99_999_999 };
     line.quantity <= 10_000_000_000 && line.a <= most_a && line.b <= 10_000
 }
 

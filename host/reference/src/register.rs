@@ -156,8 +156,8 @@ impl<'a> Register<'a> {
         let mut next_line = 0;
         let mut next_name_byte = 0;
         for (index, source) in self.sources.iter().enumerate() {
-            let begins_right = usize::from(source.first_line) == next_line
-                && source.name_offset as usize == next_name_byte;
+            let begins_right =
+                usize::from(source.first_line) == next_line && source.name_offset as usize == next_name_byte;
             if !begins_right || !self.is_right(source) {
                 return Err(Refusal::new(3, index as u64));
             }
@@ -223,10 +223,7 @@ fn wrong_header_field(bytes: &[u8]) -> Option<u64> {
         (16, number_at(bytes, 16, 4) == HEADER_BYTES as u64),
         (20, number_at(bytes, 20, 4) == counts.lines_at()),
         (24, number_at(bytes, 24, 4) == counts.names_at()),
-        (
-            28,
-            whole_length == counts.whole_length() && whole_length == bytes.len() as u64,
-        ),
+        (28, whole_length == counts.whole_length() && whole_length == bytes.len() as u64),
     ];
     let wrong = fields.iter().find(|(_, is_right)| !is_right);
     wrong.map(|&(place, _)| place)

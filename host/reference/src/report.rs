@@ -70,10 +70,7 @@ impl Report {
         if !entries.clone().all(is_entry_right) {
             return None;
         }
-        let report = Report {
-            year: number_at(bytes, 6, 2) as u16,
-            entries: entries.map(Entry::read).collect(),
-        };
+        let report = Report { year: number_at(bytes, 6, 2) as u16, entries: entries.map(Entry::read).collect() };
         let is_right = report.has_ascending_numbers() && report.totals() == masses_at(bytes, 24);
         is_right.then_some(report)
     }
@@ -87,10 +84,7 @@ impl Report {
     /// "year, count and the four totals, then one line an entry: number, method, CO2, CH4, N2O, equivalent. .. One space parts
     /// fields, a line feed ends each line, numbers are plain decimals."
     pub fn text(&self) -> Vec<u8> {
-        let mut text = text_line(
-            [self.year as u128, self.entries.len() as u128],
-            self.totals(),
-        );
+        let mut text = text_line([self.year as u128, self.entries.len() as u128], self.totals());
         for entry in &self.entries {
             let named = [u128::from(entry.number), u128::from(entry.method)];
             text += &text_line(named, entry.masses.with_equivalent());
@@ -112,11 +106,7 @@ impl Entry {
         Entry {
             number: number_at(entry, 0, 4) as u32,
             method: entry[4],
-            masses: Masses {
-                co2: number_at(entry, 8, 8),
-                ch4: number_at(entry, 16, 8),
-                n2o: number_at(entry, 24, 8),
-            },
+            masses: Masses { co2: number_at(entry, 8, 8), ch4: number_at(entry, 16, 8), n2o: number_at(entry, 24, 8) },
         }
     }
 }
@@ -159,10 +149,6 @@ fn append_masses(bytes: &mut Vec<u8>, masses: [u128; 4]) {
 }
 
 fn text_line(front: [u128; 2], masses: [u128; 4]) -> String {
-    let fields: Vec<String> = front
-        .iter()
-        .chain(&masses)
-        .map(|number| number.to_string())
-        .collect();
+    let fields: Vec<String> = front.iter().chain(&masses).map(|number| number.to_string()).collect();
     fields.join(" ") + "\n"
 }

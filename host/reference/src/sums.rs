@@ -30,28 +30,16 @@ impl Sum {
 }
 
 fn sum(name: &'static str, method: u8, parameter: u8, lines: &[Line], known: Known) -> Sum {
-    Sum {
-        name,
-        method,
-        parameter,
-        lines: lines.to_vec(),
-        known,
-    }
+    Sum { name, method, parameter, lines: lines.to_vec(), known }
 }
 
 fn co2(grams: u64) -> Known {
-    let masses = Masses {
-        co2: grams,
-        ..Masses::default()
-    };
+    let masses = Masses { co2: grams, ..Masses::default() };
     Known::Grams(masses, grams)
 }
 
 fn n2o(grams: u64, equivalent: u64) -> Known {
-    let masses = Masses {
-        n2o: grams,
-        ..Masses::default()
-    };
+    let masses = Masses { n2o: grams, ..Masses::default() };
     Known::Grams(masses, equivalent)
 }
 
@@ -66,10 +54,7 @@ fn methane(content: u32, share: u32, quantity: u64) -> Line {
 
 /// "Sums done by hand", in document 01's order.
 pub fn by_hand() -> Vec<Sum> {
-    [by_hand_carbon(), by_hand_acid(), by_hand_flare()]
-        .into_iter()
-        .flatten()
-        .collect()
+    [by_hand_carbon(), by_hand_acid(), by_hand_flare()].into_iter().flatten().collect()
 }
 
 fn by_hand_carbon() -> Vec<Sum> {
@@ -81,109 +66,36 @@ fn by_hand_carbon() -> Vec<Sum> {
         metal(13, 15_000, 800_000),
     ];
     let in_and_out = |out| [metal(10, 1_000_000, 900_000), metal(11, 1_000_000, out)];
-    let cement = [
-        line(20, 1, 1, 1_000_000, 10_000, 1_000_000),
-        line(21, 1, 1, 900_000, 6_000, 10_000),
-    ];
+    let cement = [line(20, 1, 1, 1_000_000, 10_000, 1_000_000), line(21, 1, 1, 900_000, 6_000, 10_000)];
     vec![
-        sum(
-            "fuel, 800 t of carbon",
-            1,
-            0,
-            &[boiler_line()],
-            co2(2_931_200_000),
-        ),
+        sum("fuel, 800 t of carbon", 1, 0, &[boiler_line()], co2(2_931_200_000)),
         sum("fuel, 114.5 g is 115", 1, 0, &[gas(31_250)], co2(115)),
         sum("fuel, below 114.5 g is 114", 1, 0, &[gas(31_249)], co2(114)),
-        sum(
-            "metals, in and out with stocks",
-            3,
-            0,
-            &stocks,
-            co2(241_824_000),
-        ),
-        sum(
-            "metals, as much out as in",
-            3,
-            0,
-            &in_and_out(900_000),
-            co2(0),
-        ),
-        sum(
-            "metals, more out than in",
-            3,
-            0,
-            &in_and_out(900_001),
-            Known::Refused(6),
-        ),
-        sum(
-            "cement, carbonate and dust",
-            5,
-            0,
-            &cement,
-            co2(438_416_000),
-        ),
+        sum("metals, in and out with stocks", 3, 0, &stocks, co2(241_824_000)),
+        sum("metals, as much out as in", 3, 0, &in_and_out(900_000), co2(0)),
+        sum("metals, more out than in", 3, 0, &in_and_out(900_001), Known::Refused(6)),
+        sum("cement, carbonate and dust", 5, 0, &cement, co2(438_416_000)),
     ]
 }
 
 fn by_hand_acid() -> Vec<Sum> {
     let acid = |quantity| [line(30, 1, 0, 0, 0, quantity)];
     vec![
-        sum(
-            "acid, parameter 5",
-            6,
-            5,
-            &acid(1_000_000),
-            n2o(9_000_000, 2_682_000_000),
-        ),
-        sum(
-            "acid, parameter 6, half a gram",
-            6,
-            6,
-            &acid(1_000),
-            n2o(1, 298),
-        ),
+        sum("acid, parameter 5", 6, 5, &acid(1_000_000), n2o(9_000_000, 2_682_000_000)),
+        sum("acid, parameter 6, half a gram", 6, 6, &acid(1_000), n2o(1, 298)),
         sum("acid, parameter 6, below half", 6, 6, &acid(999), n2o(0, 0)),
     ]
 }
 
 fn by_hand_flare() -> Vec<Sum> {
-    let flare = [
-        line(1, 2, 0, 1_200_000, 50, 100_000),
-        methane(500_000, 50, 100_000),
-    ];
-    let burnt = Masses {
-        co2: 437_481_600,
-        ch4: 250_000,
-        n2o: 0,
-    };
-    let limit = Masses {
-        ch4: 40_000_000_000_000,
-        ..Masses::default()
-    };
+    let flare = [line(1, 2, 0, 1_200_000, 50, 100_000), methane(500_000, 50, 100_000)];
+    let burnt = Masses { co2: 437_481_600, ch4: 250_000, n2o: 0 };
+    let limit = Masses { ch4: 40_000_000_000_000, ..Masses::default() };
     let at = |content| [methane(content, 10_000, 10_000_000_000)];
     vec![
-        sum(
-            "flare, both kinds",
-            2,
-            0,
-            &flare,
-            Known::Grams(burnt, 443_731_600),
-        ),
-        sum(
-            "flare, equivalent 10^15",
-            2,
-            0,
-            &at(4_000_000),
-            Known::Grams(limit, 1_000_000_000_000_000),
-        ),
-        sum(
-            "flare, equivalent above 10^15",
-            2,
-            0,
-            &at(4_000_001),
-            Known::Refused(7),
-        ),
+        sum("flare, both kinds", 2, 0, &flare, Known::Grams(burnt, 443_731_600)),
+        sum("flare, equivalent 10^15", 2, 0, &at(4_000_000), Known::Grams(limit, 1_000_000_000_000_000)),
+        sum("flare, equivalent above 10^15", 2, 0, &at(4_000_001), Known::Refused(7)),
     ]
 }
 
@@ -200,13 +112,7 @@ const FUELS: [(&str, u8, u16, u32, u64); 14] = [
     ("Karaganda coal, TJ", 4, 3, 25_700_000, 94_164_800),
     ("Chita coal, TJ", 4, 3, 27_000_000, 98_928_000),
     ("liquefied gas, TJ", 4, 1, 15_400_000, 56_425_600),
-    (
-        "blast furnace gas, standard fuel",
-        3,
-        1,
-        2_080_000,
-        7_621_120,
-    ),
+    ("blast furnace gas, standard fuel", 3, 1, 2_080_000, 7_621_120),
     ("fuel oil, standard fuel", 3, 2, 620_000, 2_271_680),
     ("peat, standard fuel", 3, 3, 850_000, 3_114_400),
 ];
@@ -221,13 +127,7 @@ pub fn printed() -> Vec<Sum> {
     let acid = line(30, 1, 0, 0, 0, 1_000);
     let factors = [
         sum("CaCO3, t", 5, 0, &[calcite], co2(440_000)),
-        sum(
-            "acid at high pressure, t",
-            6,
-            5,
-            &[acid],
-            n2o(9_000, 2_682_000),
-        ),
+        sum("acid at high pressure, t", 6, 5, &[acid], n2o(9_000, 2_682_000)),
     ];
     fuels.chain(factors).collect()
 }
