@@ -2,7 +2,7 @@
 
 use crate::answers::{deliver, Answer, Refusal};
 use crate::masses::masses_of;
-use crate::methods::contribution;
+use crate::methods::row_of;
 use crate::register::{Register, Source, MOST_SOURCES};
 use crate::report::{Entry, Report};
 
@@ -85,7 +85,7 @@ fn calculated(register: &[u8]) -> Result<Report, Refusal> {
 fn test_lines(register: &Register) -> Result<(), Refusal> {
     for source in &register.sources {
         for (index, line) in register.lines_of(source).iter().enumerate() {
-            if contribution(source.method, source.parameter, line).is_none() {
+            if row_of(source.method, source.parameter, line).is_none() {
                 let place = usize::from(source.first_line) + index;
                 return Err(Refusal::new(5, place as u64));
             }

@@ -3,8 +3,8 @@
 //! `register`, `methods`, `masses`, `report` and `calls` are document 01, part by part, each function under the sentence
 //! that it says; `bytes` and `answers` serve them. They share no code and no table with the proved program.
 //!
-//! The rest makes inputs: `draft` writes registers out of their parts, `call` is a call with all that is lent to it,
-//! `sums` has results that are known from outside.
+//! The rest makes inputs: `draft` writes registers out of their parts, `call` is a call with all that is lent to it, `sums` has
+//! results that are known from outside, `cases` has chosen calls, `generator` makes calls from a seed.
 
 pub mod answers;
 pub mod bytes;
@@ -12,6 +12,7 @@ pub mod call;
 pub mod calls;
 pub mod cases;
 pub mod draft;
+pub mod generator;
 pub mod masses;
 pub mod methods;
 pub mod register;

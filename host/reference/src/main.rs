@@ -4,10 +4,11 @@ use std::io::{self, Read, Write};
 use std::path::Path;
 use std::process::ExitCode;
 
-use reference::{calls, cases};
+use reference::{calls, cases, generator};
 
 const USAGE: &str = "\
 reference report < REGISTER     what the report program writes
+reference counts SEED COUNT     how many of so many generated calls gave each answer
 reference cases DIR             data/calls, stdout and calls.txt: chosen calls, what they answer, and a listing
 ";
 
@@ -16,6 +17,7 @@ fn main() -> ExitCode {
     let words: Vec<&str> = words.iter().map(String::as_str).collect();
     let done = match words[..] {
         ["report"] => report(),
+        ["counts", seed, count] => counts(seed, count),
         ["cases", dir] => write_cases(Path::new(dir)),
         _ => {
             eprint!("{USAGE}");
@@ -31,10 +33,22 @@ fn main() -> ExitCode {
     }
 }
 
-fn report() -> io::Result<()> {
+fn input() -> io::Result<Vec<u8>> {
     let mut input = vec![];
     io::stdin().read_to_end(&mut input)?;
-    io::stdout().write_all(&calls::report_program(&input))
+    Ok(input)
+}
+
+fn report() -> io::Result<()> {
+    io::stdout().write_all(&calls::report_program(&input()?))
+}
+
+fn counts(seed: &str, count: &str) -> io::Result<()> {
+    let number = |word: &str| word.parse().map_err(|_| io::Error::other(format!("{word} is no number")));
+    for (answer, count) in generator::counts(number(seed)?, number(count)?) {
+        println!("{answer:>7} {count:>9}");
+    }
+    Ok(())
 }
 
 fn write_cases(dir: &Path) -> io::Result<()> {

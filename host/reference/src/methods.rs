@@ -111,13 +111,15 @@ pub fn is_listed(method: u8, parameter: u8) -> bool {
     TABLE.iter().any(|row| row.method == method && row.parameters.contains(&parameter))
 }
 
-/// What a line adds to which gas; nothing where it "breaks its ranges or is wrong for its method". "An accepted line is of
-/// exactly one kind", so at most one row takes it.
+/// The row that takes a line; none where it "breaks its ranges or is wrong for its method". "An accepted line is of exactly
+/// one kind", so at most one row takes it.
+pub fn row_of(method: u8, parameter: u8, line: &Line) -> Option<&'static Row> {
+    TABLE.iter().find(|row| is_in_range(line) && row.takes(method, parameter, line))
+}
+
+/// What an accepted line adds to which gas.
 pub fn contribution(method: u8, parameter: u8, line: &Line) -> Option<(Gas, i128)> {
-    if !is_in_range(line) {
-        return None;
-    }
-    let row = TABLE.iter().find(|row| row.takes(method, parameter, line))?;
+    let row = row_of(method, parameter, line)?;
     Some((row.gas, (row.adds)(line, parameter)))
 }
 

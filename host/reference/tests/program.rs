@@ -1,0 +1,33 @@
+//! What the report program writes.
+
+use reference::calls::{refused_line, report_program};
+use reference::draft::boilers;
+
+/// Document 01's example, word for word.
+#[test]
+fn two_boilers() {
+    let text = "2023 2 5862400000 0 0 5862400000\n7 1 2931200000 0 0 2931200000\n8 1 2931200000 0 0 2931200000\n";
+    assert_eq!(report_program(&boilers(&[8, 7]).bytes()), text.as_bytes());
+}
+
+#[test]
+fn the_empty_register() {
+    assert_eq!(report_program(&boilers(&[]).bytes()), b"2023 0 0 0 0 0\n");
+}
+
+#[test]
+fn refusals_are_a_line() {
+    assert_eq!(report_program(&[]), b"refused 1 0\n");
+    assert_eq!(report_program(&boilers(&[7, 7]).bytes()), b"refused 4 1\n");
+    assert_eq!(refused_line(13, 4_294_967_295), b"refused 13 4294967295\n");
+}
+
+/// "An input longer than any register is answered as if all of it were lent": the header's own faults come first.
+#[test]
+fn inputs_longer_than_any_register() {
+    let mut input = boilers(&[8, 7]).bytes();
+    input.resize(100_000, 0);
+    assert_eq!(report_program(&input), b"refused 2 28\n");
+    input[4] = 9;
+    assert_eq!(report_program(&input), b"refused 2 4\n");
+}
