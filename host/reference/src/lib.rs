@@ -4,7 +4,8 @@
 //! that it says; `bytes` and `answers` serve them. They share no code and no table with the proved program.
 //!
 //! The rest makes inputs: `draft` writes registers out of their parts, `call` is a call with all that is lent to it, `sums` has
-//! results that are known from outside, `cases` has chosen calls, `generator` makes calls from a seed.
+//! results that are known from outside, `cases` has chosen calls, `generator` makes calls from a seed, `examples` and `listing`
+//! are for people.
 
 pub mod answers;
 pub mod bytes;
@@ -12,7 +13,9 @@ pub mod call;
 pub mod calls;
 pub mod cases;
 pub mod draft;
+pub mod examples;
 pub mod generator;
+pub mod listing;
 pub mod masses;
 pub mod methods;
 pub mod register;

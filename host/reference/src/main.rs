@@ -4,12 +4,14 @@ use std::io::{self, Read, Write};
 use std::path::Path;
 use std::process::ExitCode;
 
-use reference::{calls, cases, generator};
+use reference::{calls, cases, examples, generator, listing};
 
 const USAGE: &str = "\
 reference report < REGISTER     what the report program writes
+reference list < REGISTER       a register's fields, and what the report program writes
 reference counts SEED COUNT     how many of so many generated calls gave each answer
 reference cases DIR             data/calls, stdout and calls.txt: chosen calls, what they answer, and a listing
+reference examples DIR          the examples with their listings
 ";
 
 fn main() -> ExitCode {
@@ -17,8 +19,10 @@ fn main() -> ExitCode {
     let words: Vec<&str> = words.iter().map(String::as_str).collect();
     let done = match words[..] {
         ["report"] => report(),
+        ["list"] => list(),
         ["counts", seed, count] => counts(seed, count),
         ["cases", dir] => write_cases(Path::new(dir)),
+        ["examples", dir] => write_examples(Path::new(dir)),
         _ => {
             eprint!("{USAGE}");
             return ExitCode::from(2);
@@ -43,6 +47,14 @@ fn report() -> io::Result<()> {
     io::stdout().write_all(&calls::report_program(&input()?))
 }
 
+fn list() -> io::Result<()> {
+    match listing::listing(&input()?) {
+        Ok(listing) => print!("{listing}"),
+        Err(refusal) => io::stdout().write_all(&calls::refused_line(refusal.number, refusal.place))?,
+    }
+    Ok(())
+}
+
 fn counts(seed: &str, count: &str) -> io::Result<()> {
     let number = |word: &str| word.parse().map_err(|_| io::Error::other(format!("{word} is no number")));
     for (answer, count) in generator::counts(number(seed)?, number(count)?) {
@@ -56,4 +68,13 @@ fn write_cases(dir: &Path) -> io::Result<()> {
     std::fs::write(dir.join("data/calls"), cases::calls())?;
     std::fs::write(dir.join("stdout"), cases::output())?;
     std::fs::write(dir.join("calls.txt"), cases::listing())
+}
+
+fn write_examples(dir: &Path) -> io::Result<()> {
+    for (name, register) in examples::all() {
+        let listing = listing::listing(&register).expect("an example's header is right");
+        std::fs::write(dir.join(format!("{name}.register")), &register)?;
+        std::fs::write(dir.join(format!("{name}.txt")), listing)?;
+    }
+    Ok(())
 }
