@@ -4,6 +4,7 @@ use std::io::{self, Read, Write};
 use std::path::Path;
 use std::process::ExitCode;
 
+use reference::cases::Group;
 use reference::{calls, cases, examples, generator, listing};
 
 const USAGE: &str = "\
@@ -11,6 +12,7 @@ reference report < REGISTER     what the report program writes
 reference list < REGISTER       a register's fields, and what the report program writes
 reference counts SEED COUNT     how many of so many generated calls gave each answer
 reference cases DIR             data/calls, stdout and calls.txt: chosen calls, what they answer, and a listing
+reference cases DIR SEED COUNT  the same of generated calls
 reference examples DIR          the examples with their listings
 ";
 
@@ -21,7 +23,8 @@ fn main() -> ExitCode {
         ["report"] => report(),
         ["list"] => list(),
         ["counts", seed, count] => counts(seed, count),
-        ["cases", dir] => write_cases(Path::new(dir)),
+        ["cases", dir] => write_cases(Path::new(dir), &cases::chosen()),
+        ["cases", dir, seed, count] => write_generated(Path::new(dir), seed, count),
         ["examples", dir] => write_examples(Path::new(dir)),
         _ => {
             eprint!("{USAGE}");
@@ -55,19 +58,26 @@ fn list() -> io::Result<()> {
     Ok(())
 }
 
+fn number(word: &str) -> io::Result<u64> {
+    word.parse().map_err(|_| io::Error::other(format!("{word} is no number")))
+}
+
 fn counts(seed: &str, count: &str) -> io::Result<()> {
-    let number = |word: &str| word.parse().map_err(|_| io::Error::other(format!("{word} is no number")));
     for (answer, count) in generator::counts(number(seed)?, number(count)?) {
         println!("{answer:>7} {count:>9}");
     }
     Ok(())
 }
 
-fn write_cases(dir: &Path) -> io::Result<()> {
+fn write_generated(dir: &Path, seed: &str, count: &str) -> io::Result<()> {
+    write_cases(dir, &cases::generated(number(seed)?, number(count)?))
+}
+
+fn write_cases(dir: &Path, groups: &[Group]) -> io::Result<()> {
     std::fs::create_dir_all(dir.join("data"))?;
-    std::fs::write(dir.join("data/calls"), cases::calls())?;
-    std::fs::write(dir.join("stdout"), cases::output())?;
-    std::fs::write(dir.join("calls.txt"), cases::listing())
+    std::fs::write(dir.join("data/calls"), cases::calls(groups))?;
+    std::fs::write(dir.join("stdout"), cases::output(groups))?;
+    std::fs::write(dir.join("calls.txt"), cases::listing(groups))
 }
 
 fn write_examples(dir: &Path) -> io::Result<()> {

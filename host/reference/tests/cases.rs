@@ -3,11 +3,11 @@
 use std::collections::BTreeSet;
 
 use reference::bytes::number_at;
-use reference::cases::{calls, groups, listing, output};
+use reference::cases::{calls, chosen, generated, listing, output};
 
 #[test]
 fn answers_are_those_stated() {
-    for group in groups() {
+    for group in chosen() {
         for case in group.cases {
             let reply = case.call.reply();
             assert_eq!(reply.answer, case.answer, "{}: {}", group.purpose, case.name);
@@ -18,7 +18,7 @@ fn answers_are_those_stated() {
 /// "A refusal writes nothing", and "bytes after that length stay".
 #[test]
 fn bytes_behind_the_length_stay() {
-    for case in groups().into_iter().flat_map(|group| group.cases) {
+    for case in chosen().into_iter().flat_map(|group| group.cases) {
         let reply = case.call.reply();
         let written = if reply.buffer.is_empty() { 0 } else { case.answer[2] };
         let behind = &reply.buffer[written as usize..];
@@ -28,7 +28,7 @@ fn bytes_behind_the_length_stay() {
 
 #[test]
 fn names_fit_and_differ_in_their_group() {
-    for group in groups() {
+    for group in chosen() {
         let names: BTreeSet<&str> = group.cases.iter().map(|case| case.name.as_str()).collect();
         assert_eq!(names.len(), group.cases.len(), "{}", group.purpose);
         for name in names {
@@ -39,7 +39,7 @@ fn names_fit_and_differ_in_their_group() {
 
 #[test]
 fn each_refusal_number_has_a_case() {
-    let cases = groups().into_iter().flat_map(|group| group.cases);
+    let cases = chosen().into_iter().flat_map(|group| group.cases);
     let numbers: BTreeSet<u64> = cases.filter(|c| c.answer.len() == 3).map(|c| c.answer[0]).collect();
     assert!((0..=13).all(|number| numbers.contains(&number)));
 }
@@ -47,9 +47,9 @@ fn each_refusal_number_has_a_case() {
 /// Reads the file as a program would, and compares every record with its call.
 #[test]
 fn file_holds_every_call() {
-    let file = calls();
+    let file = calls(&chosen());
     let mut at = 0;
-    for case in groups().into_iter().flat_map(|group| group.cases) {
+    for case in chosen().into_iter().flat_map(|group| group.cases) {
         let record = &file[at..];
         let (first, second) = (number_at(record, 12, 4) as usize, number_at(record, 16, 4) as usize);
         assert_eq!(record[0], case.call.entry as u8);
@@ -66,6 +66,8 @@ fn file_holds_every_call() {
 
 #[test]
 fn files_are_the_same_each_time_and_small() {
-    assert!(calls() == calls() && output() == output() && listing() == listing());
-    assert!(output().len() < 1_000_000);
+    let (once, again) = (chosen(), chosen());
+    assert!(calls(&once) == calls(&again) && output(&once) == output(&again) && listing(&once) == listing(&again));
+    assert!(output(&once).len() < 1_000_000);
+    assert!(calls(&generated(5, 50)) == calls(&generated(5, 50)));
 }

@@ -143,6 +143,12 @@ fn rounding() -> Vec<Case> {
         accepted("methane, half a gram is 1", 2, 0, &[gas(500)]),
         accepted("methane, under half a gram is 0", 2, 0, &[gas(499)]),
         accepted("methane, a quarter gram twice is 1", 2, 0, &[gas(250); 2]),
+        accepted(
+            "a flare's kinds, other share and quantity",
+            2,
+            0,
+            &[line(1, 2, 0, 900_000, 50, 7), line(2, 1, 0, 300, 9, 11)],
+        ),
         accepted("acid 2, 2.5 g is 3", 6, 2, &[acid(1)]),
         accepted("acid 4, 7.5 g twice is 15", 6, 4, &[acid(1); 2]),
         accepted("acid 6, half a gram in two lines is 1", 6, 6, &[acid(999), acid(1)]),

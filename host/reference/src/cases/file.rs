@@ -19,7 +19,7 @@
 //! last line shorter where the room is no multiple of eight. Of a text that was accepted the first bytes, as many as its
 //! length, stand as they are, and only those behind them in hexadecimal lines.
 
-use super::{groups, Case};
+use super::{Case, Group};
 use crate::bytes::append;
 use crate::call::{Entry, Reply};
 
@@ -27,21 +27,19 @@ const NAME_BYTES: usize = 44;
 const BYTES_A_LINE: usize = 8;
 
 /// The file of calls.
-pub fn calls() -> Vec<u8> {
-    let cases = groups().into_iter().flat_map(|group| group.cases);
-    cases.flat_map(|case| record(&case)).collect()
+pub fn calls(groups: &[Group]) -> Vec<u8> {
+    groups.iter().flat_map(|group| &group.cases).flat_map(record).collect()
 }
 
 /// What a program over the entry points writes when it answers the file of calls.
-pub fn output() -> Vec<u8> {
-    let cases = groups().into_iter().flat_map(|group| group.cases);
-    cases.flat_map(|case| reply_text(&case)).collect()
+pub fn output(groups: &[Group]) -> Vec<u8> {
+    groups.iter().flat_map(|group| &group.cases).flat_map(reply_text).collect()
 }
 
 /// The groups with their purpose, and a line for each call.
-pub fn listing() -> String {
+pub fn listing(groups: &[Group]) -> String {
     let mut listing = String::new();
-    for group in groups() {
+    for group in groups {
         listing += &format!("\n{}\n\n", group.purpose);
         for case in &group.cases {
             listing += &listing_line(case);

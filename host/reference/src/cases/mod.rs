@@ -1,7 +1,6 @@
-//! Chosen calls, each with a name and the answer that document 01 gives it.
+//! Calls with a name and an answer, to be written to a file (`file`) that tests a program over the proved entry points.
 //!
-//! The answers are stated by hand, so these cases test the reference itself; written to a file (`file`), they test a
-//! program over the proved entry points.
+//! The answers of the chosen calls are stated by hand, so these test the reference itself.
 
 mod balances;
 mod check;
@@ -19,6 +18,7 @@ mod texts;
 pub use file::{calls, listing, output};
 
 use crate::call::Call;
+use crate::generator;
 
 pub struct Case {
     pub name: String,
@@ -32,7 +32,8 @@ pub struct Group {
     pub cases: Vec<Case>,
 }
 
-pub fn groups() -> Vec<Group> {
+/// The chosen calls.
+pub fn chosen() -> Vec<Group> {
     let parts = [
         sums::groups(),
         header::groups(),
@@ -47,6 +48,16 @@ pub fn groups() -> Vec<Group> {
         names::groups(),
     ];
     parts.into_iter().flatten().collect()
+}
+
+/// Calls made from a seed, with the reference's own answers.
+pub fn generated(seed: u64, count: u64) -> Vec<Group> {
+    let made = |index| {
+        let call = generator::call(seed, index);
+        let answer = call.reply().answer;
+        Case { name: format!("call {index}"), call, answer }
+    };
+    vec![group("Generated calls.", (0..count).map(made).collect())]
 }
 
 fn group(purpose: &'static str, cases: Vec<Case>) -> Group {

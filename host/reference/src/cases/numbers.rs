@@ -1,7 +1,7 @@
 //! Refusal 4, and registers of the largest size.
 
 use super::{calculation_accepted, calculation_refused, group, Case, Group};
-use crate::draft::{boiler, boilers, register, Draft};
+use crate::draft::{boiler, boilers, register, source, Draft};
 
 pub fn groups() -> Vec<Group> {
     vec![
@@ -44,9 +44,11 @@ fn largest() -> Vec<Case> {
     numbers[511] = 1;
     let mut last_line_wrong = full.clone();
     last_line_wrong.sources[511].lines[1].b = 10_001;
+    let one_source = register(2023, vec![source(1, 1, 0, &[boiler(1).lines[0]; 1_024])]);
     let one_more = [full.bytes(), b" ".to_vec()].concat();
     vec![
         calculation_accepted("512 sources, 45,088 bytes", &full.bytes(), 512),
+        calculation_accepted("one source with 1,024 lines", &one_source.bytes(), 1),
         calculation_refused("the last of 512 repeats the first", &boilers(&numbers).bytes(), 4, 511),
         calculation_refused("1,024 lines, the last is wrong", &last_line_wrong.bytes(), 5, 1_023),
         calculation_refused("45,089 bytes", &one_more, 2, 28),

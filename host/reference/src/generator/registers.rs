@@ -78,7 +78,7 @@ fn tamed(mut source: DraftSource) -> DraftSource {
 }
 
 /// A line that a row of the method takes.
-pub fn right_line(random: &mut Random, method: u8, parameter: u8) -> Line {
+fn right_line(random: &mut Random, method: u8, parameter: u8) -> Line {
     let rows: Vec<&Row> =
         TABLE.iter().filter(|row| row.method == method && row.parameters.contains(&parameter)).collect();
     let row = random.pick(&rows);
