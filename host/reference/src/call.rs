@@ -15,8 +15,8 @@ pub enum Entry {
     NameOfTwo = 7,
 }
 
-/// A call: its one or two inputs, its number, and a buffer of `room` bytes that all hold `fill`. What an entry point does
-/// not take is empty or zero.
+/// A call: its one or two inputs, its number, and a buffer of `room` bytes that all hold `fill`. What an entry point
+/// does not take is empty or zero.
 #[derive(Clone, Debug, PartialEq, Eq)]
 pub struct Call {
     pub entry: Entry,

@@ -6,8 +6,8 @@ use crate::methods::row_of;
 use crate::register::{Register, Source, MOST_SOURCES};
 use crate::report::{Entry, Report};
 
-/// "Calculation tests 1, 2 by field, 3 over all sources, 4 over all, 5 over all lines, then 6 and 7 source by source in table
-/// order, then 8."
+/// "Calculation tests 1, 2 by field, 3 over all sources, 4 over all, 5 over all lines, then 6 and 7 source by source
+/// in table order, then 8."
 pub fn calculate(register: &[u8], buffer: &mut [u8]) -> Answer {
     let report = calculated(register);
     deliver(report.map(|report| report.bytes()), buffer)
@@ -39,16 +39,16 @@ pub fn text(report: &[u8], buffer: &mut [u8]) -> Answer {
     deliver(report.map(|report| report.text()), buffer)
 }
 
-/// "The name found for a number is the part of the lent register where it stands": offset and length. "The answer is the
-/// empty part at the front of the register where 1 to 4 refuse it, where the number is absent."
+/// "The name found for a number is the part of the lent register where it stands": offset and length. "The answer is
+/// the empty part at the front of the register where 1 to 4 refuse it, where the number is absent."
 pub fn name(register: &[u8], number: u32) -> (u64, u64) {
     let found = Register::read(register).ok();
     found.and_then(|register| register.name_place(number)).unwrap_or((0, 0))
 }
 
-/// "Over two registers, the plant's and its contractor's, the name is a part of whichever register holds the number": 1 or 2,
-/// offset and length. The answer is the empty part at the front of the first "where 1 to 4 refuse any register given, where
-/// the number is absent, or where it stands in both registers".
+/// "Over two registers, the plant's and its contractor's, the name is a part of whichever register holds the number":
+/// 1 or 2, offset and length. The answer is the empty part at the front of the first "where 1 to 4 refuse any
+/// register given, where the number is absent, or where it stands in both registers".
 pub fn name_of_two(plant: &[u8], contractor: &[u8], number: u32) -> (u32, u64, u64) {
     let (Ok(plant), Ok(contractor)) = (Register::read(plant), Register::read(contractor)) else {
         return (1, 0, 0);

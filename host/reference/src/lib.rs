@@ -1,11 +1,11 @@
 //! Document 01 once more, from its words alone: a reference to hold the proved program against.
 //!
-//! `register`, `methods`, `masses`, `report` and `calls` are document 01, part by part, each function under the sentence
-//! that it says; `bytes` and `answers` serve them. They share no code and no table with the proved program.
+//! `register`, `methods`, `masses`, `report` and `calls` are document 01, part by part, each function under the
+//! sentence that it says; `bytes` and `answers` serve them. They share no code and no table with the proved program.
 //!
-//! The rest makes inputs: `draft` writes registers out of their parts, `call` is a call with all that is lent to it, `sums` has
-//! results that are known from outside, `cases` has chosen calls, `generator` makes calls from a seed, `examples` and `listing`
-//! are for people.
+//! The rest makes inputs: `draft` writes registers out of their parts, `call` is a call with all that is lent to it,
+//! `sums` has results that are known from outside, `cases` has chosen calls, `generator` makes calls from a seed,
+//! `examples` and `listing` are for people.
 
 pub mod answers;
 pub mod bytes;

@@ -45,8 +45,8 @@ pub static TABLE: [Row; 13] = [
 
     // "2 flare, 0 | 1, units 1 and 2, code 0, B share unburned | + Q A (10,000 - B) 3664"
     Row { method: 2, parameters: &[0], kinds: &[1], units: &[1, 2], codes: 0..=0, a: ANY_A, b: ANY_B, gas: Co2, adds: |l, _| carbon(l, 10_000 - l.b()) },
-    // "Flare also has kind 2, unburned methane: units 1 and 2, code 0, A tonnes of CH4 per unit, B share unburned; CH4 in
-    // grams is the sum of Q A B / 10^7."
+    // "Flare also has kind 2, unburned methane: units 1 and 2, code 0, A tonnes of CH4 per unit, B share unburned;
+    // CH4 in grams is the sum of Q A B / 10^7."
     Row { method: 2, parameters: &[0], kinds: &[2], units: &[1, 2], codes: 0..=0, a: ANY_A, b: ANY_B, gas: Ch4, adds: |l, _| l.q() * l.a() * l.b() },
 
     // "3 metals, 0 | 10 in, 12 opening stock; any unit, code 0, B 10,000 | + Q A B 3664"
@@ -67,7 +67,8 @@ pub static TABLE: [Row; 13] = [
     // "22 carbon other than fuel, unit 1, code 0, B 10,000 | + Q A B 3664"
     Row { method: 5, parameters: &[0], kinds: &[22], units: &[1], codes: 0..=0, a: ANY_A, b: ALL_B, gas: Co2, adds: |l, _| carbon(l, l.b()) },
 
-    // "Method 6 is nitric acid: kind 30, unit 1, code 0, A 0, B 0, parameter 1 to 6. N2O in grams is the sum of Q f / 10^4"
+    // "Method 6 is nitric acid: kind 30, unit 1, code 0, A 0, B 0, parameter 1 to 6. N2O in grams is the sum of Q f /
+    // 10^4"
     Row { method: 6, parameters: ONE_TO_SIX, kinds: &[30], units: &[1], codes: 0..=0, a: 0..=0, b: 0..=0, gas: N2o, adds: |l, parameter| l.q() * acid_factor(parameter) },
 ];
 
@@ -111,8 +112,8 @@ pub fn is_listed(method: u8, parameter: u8) -> bool {
     TABLE.iter().any(|row| row.method == method && row.parameters.contains(&parameter))
 }
 
-/// The row that takes a line; none where it "breaks its ranges or is wrong for its method". "An accepted line is of exactly
-/// one kind", so at most one row takes it.
+/// The row that takes a line; none where it "breaks its ranges or is wrong for its method". "An accepted line is of
+/// exactly one kind", so at most one row takes it.
 pub fn row_of(method: u8, parameter: u8, line: &Line) -> Option<&'static Row> {
     TABLE.iter().find(|row| is_in_range(line) && row.takes(method, parameter, line))
 }
@@ -123,8 +124,8 @@ pub fn contribution(method: u8, parameter: u8, line: &Line) -> Option<(Gas, i128
     Some((row.gas, (row.adds)(line, parameter)))
 }
 
-/// "Q is 0 to 10,000,000,000. .. A is in millionths: at most 1,000,000 where the unit is tonne, else at most 99,999,999. B
-/// is in ten-thousandths, 0 to 10,000."
+/// "Q is 0 to 10,000,000,000. .. A is in millionths: at most 1,000,000 where the unit is tonne, else at most
+/// 99,999,999. B is in ten-thousandths, 0 to 10,000."
 fn is_in_range(line: &Line) -> bool {
     let most_a = if line.unit == 1 { 1_000_000 } else { 99_999_999 };
     line.quantity <= 10_000_000_000 && line.a <= most_a && line.b <= 10_000

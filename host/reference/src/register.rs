@@ -103,15 +103,17 @@ impl Counts {
         }
     }
 
-    /// "Lines and names follow": where each table begins, and where the last ends.
+    /// "offset of lines | 32 + 16n"
     fn lines_at(&self) -> u64 {
         HEADER_BYTES as u64 + SOURCE_BYTES as u64 * self.sources
     }
 
+    /// "offset of names | 32 + 16n + 20m"
     fn names_at(&self) -> u64 {
         self.lines_at() + LINE_BYTES as u64 * self.lines
     }
 
+    /// "whole length | 32 + 16n + 20m + t"
     fn whole_length(&self) -> u64 {
         self.names_at() + self.name_bytes
     }

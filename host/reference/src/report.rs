@@ -43,8 +43,8 @@ impl Report {
         totals
     }
 
-    /// "Every report starts with the four bytes GREP. Then: layout 1 (2), year (2), count n (2), zero (2), offset of entries
-    /// 56 (4), whole length 56 + 40n (4), zero (4), and the totals (8 each)."
+    /// "Every report starts with the four bytes GREP. Then: layout 1 (2), year (2), count n (2), zero (2), offset of
+    /// entries 56 (4), whole length 56 + 40n (4), zero (4), and the totals (8 each)."
     pub fn bytes(&self) -> Vec<u8> {
         let mut bytes = b"GREP".to_vec();
         append(&mut bytes, 2, 1);
@@ -81,8 +81,8 @@ impl Report {
         neighbours.all(|pair| pair[0].number < pair[1].number)
     }
 
-    /// "year, count and the four totals, then one line an entry: number, method, CO2, CH4, N2O, equivalent. .. One space parts
-    /// fields, a line feed ends each line, numbers are plain decimals."
+    /// "year, count and the four totals, then one line an entry: number, method, CO2, CH4, N2O, equivalent. .. One
+    /// space parts fields, a line feed ends each line, numbers are plain decimals."
     pub fn text(&self) -> Vec<u8> {
         let mut text = text_line([self.year as u128, self.entries.len() as u128], self.totals());
         for entry in &self.entries {
@@ -111,8 +111,8 @@ impl Entry {
     }
 }
 
-/// "has its tag, layout, zeros, offset and length as laid out above, fills its lent bytes exactly, has a year in range, n at
-/// most 512"
+/// "has its tag, layout, zeros, offset and length as laid out above, fills its lent bytes exactly, has a year in
+/// range, n at most 512"
 fn is_header_right(bytes: &[u8]) -> bool {
     let count = number_at(bytes, 8, 2);
     let length = (HEADER_BYTES + ENTRY_BYTES * count as usize) as u64;

@@ -1,5 +1,5 @@
-//! Sums whose results are known from outside the program: document 01's "Sums done by hand", and table rows of the source
-//! documents that print a carbon content beside its CO2 factor.
+//! Sums whose results are known from outside the program: document 01's "Sums done by hand", and table rows of the
+//! source documents that print a carbon content beside its CO2 factor.
 
 use crate::draft::{boiler_line, line, register, source};
 use crate::masses::Masses;

@@ -1,4 +1,5 @@
-//! The third demand, on generated dealings: combined in any order and grouping, the parts give the whole register's report.
+//! The third demand, on generated dealings: combined in any order and grouping, the parts give the whole register's
+//! report.
 
 use reference::calls::{calculate, combine, remove};
 use reference::generator::{dealing, registers, Random};

@@ -3,6 +3,8 @@
 use reference::calls::{calculate, check};
 use reference::generator::faults::{spoilt, FAULTS};
 use reference::generator::{call, counts, registers, reports, Random};
+use reference::methods::{contribution, Gas};
+use reference::register::Register;
 
 const ROOM: usize = 20_536;
 
@@ -49,8 +51,8 @@ fn a_fault_alone_gives_its_refusal() {
     }
 }
 
-/// "Calculation tests 1, 2 by field, 3 over all sources, ..": of two faults that give different numbers the smaller number
-/// shows. Two faults of one number may undo each other, or show at either place.
+/// "Calculation tests 1, 2 by field, 3 over all sources, ..": of two faults that give different numbers the smaller
+/// number shows. Two faults of one number may undo each other, or show at either place.
 #[test]
 fn two_faults_give_the_smaller_refusal() {
     for (i, first) in FAULTS.iter().enumerate() {
@@ -79,4 +81,36 @@ fn valid_reports_are_well_formed_and_faults_are_not() {
             assert_eq!(check(&report).number, 9, "fault {fault}, turn {turn}");
         }
     }
+}
+
+/// The exact sums of every source of the generated registers at an edge, by gas.
+fn sums_at_edges() -> Vec<(Gas, i128)> {
+    let mut sums = vec![];
+    for turn in 0..600 {
+        let call = call(9, 12 * turn + 1);
+        let register = Register::read(&call.first).expect("an edge is one of sums");
+        for source in &register.sources {
+            for gas in [Gas::Co2, Gas::Ch4, Gas::N2o] {
+                let lines = register.lines_of(source).iter();
+                let added = lines.filter_map(|line| contribution(source.method, source.parameter, line));
+                sums.push((gas, added.filter(|added| added.0 == gas).map(|added| added.1).sum()));
+            }
+        }
+    }
+    sums
+}
+
+#[test]
+fn edges_are_met() {
+    let sums = sums_at_edges();
+    let reached = |gas, is_edge: fn(i128) -> bool| sums.iter().any(|&(of, sum)| of == gas && is_edge(sum));
+    assert!(reached(Gas::Co2, |sum| sum > 0 && sum % 10_000_000_000 == 5_000_000_000));
+    assert!(reached(Gas::Ch4, |sum| sum % 10_000_000 == 5_000_000));
+    assert!(reached(Gas::N2o, |sum| sum % 10_000 == 5_000));
+    assert!(reached(Gas::Co2, |sum| sum == -380));
+    assert!(reached(Gas::Co2, |sum| sum == -36_640_000));
+    assert!(reached(Gas::Ch4, |sum| sum == 400_000_000_000_000_000_000));
+    let answers: Vec<u32> = (0..600).map(|turn| refusal_of(&call(9, 12 * turn + 1).first)).collect();
+    assert!([0, 6, 7].iter().all(|number| answers.contains(number)));
+    assert!(answers.iter().all(|number| [0, 6, 7].contains(number)));
 }

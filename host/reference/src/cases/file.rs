@@ -1,7 +1,7 @@
 //! Cases as a file that a program reads, the output that is expected of it, and a listing for people.
 //!
-//! The file is a record for each call and nothing else. A record is a header of 64 bytes, then the first input, then the
-//! second:
+//! The file is a record for each call and nothing else. A record is a header of 64 bytes, then the first input, then
+//! the second:
 //!
 //! | Bytes | Holds |
 //! |---|---|
@@ -15,9 +15,9 @@
 //! | 20-63 | name, filled up with spaces |
 //!
 //! Output for a call is a line: the name's 44 bytes as they stand, then for each number of the answer a space and the
-//! number in decimals. Then what the buffer holds after the call, in lines of eight bytes, two hexadecimal digits a byte, the
-//! last line shorter where the room is no multiple of eight. Of a text that was accepted the first bytes, as many as its
-//! length, stand as they are, and only those behind them in hexadecimal lines.
+//! number in decimals. Then what the buffer holds after the call, in lines of eight bytes, two hexadecimal digits a
+//! byte, the last line shorter where the room is no multiple of eight. Of a text that was accepted the first bytes,
+//! as many as its length, stand as they are, and only those behind them in hexadecimal lines.
 
 use super::{Case, Group};
 use crate::bytes::append;

@@ -15,8 +15,8 @@ pub fn groups() -> Vec<Group> {
     ]
 }
 
-/// A kind with a line of quantity 0 that is right; kinds that the method does not have; and of a field, while the others
-/// stay, what is right and what is wrong.
+/// A kind with a line of quantity 0 that is right; kinds that the method does not have; and of a field, while the
+/// others stay, what is right and what is wrong.
 struct Kind {
     name: &'static str,
     method: u8,

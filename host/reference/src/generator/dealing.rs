@@ -4,12 +4,13 @@ use super::random::Random;
 use super::registers;
 use crate::draft::{register, Draft};
 
-/// An accepted register, the registers that its sources were dealt out among, and an order in which to combine their reports.
+/// An accepted register, the registers that its sources were dealt out among, and an order in which to combine their
+/// reports.
 pub struct Dealing {
     pub whole: Vec<u8>,
     pub parts: Vec<Vec<u8>>,
-    /// Each pair takes two reports out of the list, the second counted after the first is gone, and puts their combination
-    /// at its end.
+    /// Each pair takes two reports out of the list, the second counted after the first is gone, and puts their
+    /// combination at its end.
     combinations: Vec<(usize, usize)>,
 }
 

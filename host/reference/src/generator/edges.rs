@@ -20,7 +20,8 @@ fn odd(random: &mut Random, most: u64) -> u64 {
     2 * random.below(most.div_ceil(2)) + 1
 }
 
-/// Fuel of an exact half of a gram in one line or in two, or a millionth of its content less: Q A is an odd multiple of 31,250.
+/// Fuel of an exact half of a gram in one line or in two, or a millionth of its content less: Q A is an odd multiple
+/// of 31,250.
 fn half_of_co2(random: &mut Random) -> DraftSource {
     let content = 15_625 * odd(random, 31) as u32;
     let quantity = odd(random, 999_999);
@@ -84,7 +85,8 @@ fn limit(random: &mut Random) -> DraftSource {
     source(1, 2, 0, &[methane_lines(ch4), carbon_lines(co2)].concat())
 }
 
-/// Flare lines whose Q A are together a number below 10^18: a line of the largest quantity, and one of the least content.
+/// Flare lines whose Q A are together a number below 10^18: a line of the largest quantity, and one of the least
+/// content.
 fn lines_of_product(kind: u8, b: u32, product: u64) -> Vec<Line> {
     let most = 10_000_000_000;
     let large = line(kind, 2, 0, (product / most) as u32, b, most);

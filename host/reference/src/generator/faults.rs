@@ -1,4 +1,5 @@
-//! Ways to spoil a register, each breaking one rule of 1 to 7, so that alone it gives its number, and two give the smaller.
+//! Ways to spoil a register, each breaking one rule of 1 to 7, so that alone it gives its number, and two give the
+//! smaller.
 
 use super::random::Random;
 use super::spoil::{move_by_one, put};
@@ -44,7 +45,8 @@ impl Bytes {
     }
 }
 
-/// A register with the faults. What a plant states is spoilt before the bytes are, and cutting below 32 bytes comes last.
+/// A register with the faults. What a plant states is spoilt before the bytes are, and cutting below 32 bytes comes
+/// last.
 pub fn spoilt(mut draft: Draft, faults: &[&Fault], random: &mut Random) -> Vec<u8> {
     let mut faults = faults.to_vec();
     faults.sort_by_key(|fault| std::cmp::Reverse(fault.refusal));

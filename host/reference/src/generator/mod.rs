@@ -17,7 +17,8 @@ use crate::call::{Call, Entry};
 use crate::draft::Draft;
 use faults::{spoilt, FAULTS};
 
-/// Families of calls. Each is given what makes it random, and how often it had its turn, to go through its lists in order.
+/// Families of calls. Each is given what makes it random, and how often it had its turn, to go through its lists in
+/// order.
 const FAMILIES: [fn(&mut Random, u64) -> Call; 12] = [
     |random, _| calculation(random, |random| registers::valid(random).bytes()),
     |random, turn| calculation(random, |random| edges::register(random, turn).bytes()),
@@ -40,7 +41,8 @@ pub fn call(seed: u64, index: u64) -> Call {
     FAMILIES[(index % families) as usize](&mut random, index / families).filled_with(fill)
 }
 
-/// How many of the first `count` calls of a seed were answered with each number; lookups apart, by whether they found a name.
+/// How many of the first `count` calls of a seed were answered with each number; lookups apart, by whether they found
+/// a name.
 pub fn counts(seed: u64, count: u64) -> BTreeMap<String, u64> {
     let mut counts = BTreeMap::new();
     for index in 0..count {
