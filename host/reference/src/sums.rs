@@ -38,6 +38,10 @@ fn co2(grams: u64) -> Known {
     Known::Grams(masses, grams)
 }
 
+fn ch4(grams: u64) -> Known {
+    Known::Grams(Masses { ch4: grams, ..Masses::default() }, 25 * grams)
+}
+
 fn n2o(grams: u64, equivalent: u64) -> Known {
     let masses = Masses { n2o: grams, ..Masses::default() };
     Known::Grams(masses, equivalent)
@@ -130,4 +134,51 @@ pub fn printed() -> Vec<Sum> {
         sum("acid at high pressure, t", 6, 5, &[acid], n2o(9_000, 2_682_000)),
     ];
     fuels.chain(factors).collect()
+}
+
+/// Sums that are rounded once, and would be others if each line were rounded.
+pub fn rounding() -> Vec<Sum> {
+    let fuel = |content| line(1, 1, 3, content, 10_000, 1);
+    let carbon = |kind, content| metal(kind, 1, content);
+    let calcite = |b| line(20, 1, 1, 1_000_000, b, 1);
+    let gas = |content| line(2, 1, 0, content, 10_000, 1);
+    let acid = |quantity| line(30, 1, 0, 0, 0, quantity);
+    let flare = [line(1, 2, 0, 900_000, 50, 7), line(2, 1, 0, 300_000, 9, 11)];
+    let flared = Masses { co2: 22_968, ch4: 3, n2o: 0 };
+    let (quarter, less) = (carbon(10, 15_625), carbon(11, 15_625));
+    vec![
+        sum("57.25 g twice is 115", 3, 0, &[quarter; 2], co2(115)),
+        sum("114.5 g three times is 344", 1, 0, &[fuel(31_250); 3], co2(344)),
+        sum("0.4 g twice is 1", 1, 0, &[fuel(109); 2], co2(1)),
+        sum("171.75 g less 57.25 g is 115", 3, 0, &[quarter, quarter, quarter, less], co2(115)),
+        sum("343.5 g less 57.25 g is 286", 3, 0, &[carbon(10, 93_750), less], co2(286)),
+        sum("calcite, 5.5 g is 6", 5, 0, &[calcite(125)], co2(6)),
+        sum("calcite, 5.456 g is 5", 5, 0, &[calcite(124)], co2(5)),
+        sum("methane, half a gram is 1", 2, 0, &[gas(500)], ch4(1)),
+        sum("methane, under half a gram is 0", 2, 0, &[gas(499)], ch4(0)),
+        sum("methane, a quarter gram twice is 1", 2, 0, &[gas(250); 2], ch4(1)),
+        sum("a flare's kinds, other share and quantity", 2, 0, &flare, Known::Grams(flared, 23_043)),
+        sum("acid 2, 2.5 g is 3", 6, 2, &[acid(1)], n2o(3, 894)),
+        sum("acid 4, 7.5 g twice is 15", 6, 4, &[acid(1); 2], n2o(15, 4_470)),
+        sum("acid 6, half a gram in two lines is 1", 6, 6, &[acid(999), acid(1)], n2o(1, 298)),
+    ]
+}
+
+/// Every carbonate, a tonne of which a quarter stays in the dust, and every acid plant at the largest quantity.
+pub fn factors() -> Vec<Sum> {
+    let carbonates = [("CaCO3", 330_000), ("MgCO3", 391_500), ("CaMg(CO3)2", 357_750), ("FeCO3", 285_000)];
+    let acids = ["acid 1", "acid 2", "acid 3", "acid 4", "acid 5", "acid 6"];
+    let grams_of_n2o = [20_000_000_000, 25_000_000_000, 50_000_000_000, 75_000_000_000, 90_000_000_000, 5_000_000];
+    let kiln = |(index, &(name, grams))| {
+        let code = 1 + index as u16;
+        let lines = [line(20, 1, code, 1_000_000, 10_000, 1_000), line(21, 1, code, 1_000_000, 7_500, 1_000)];
+        sum(name, 5, 0, &lines, co2(grams))
+    };
+    let plant = |(index, (&name, &grams))| {
+        let lines = [line(30, 1, 0, 0, 0, 10_000_000_000)];
+        sum(name, 6, 1 + index as u8, &lines, n2o(grams, 298 * grams))
+    };
+    let other = sum("cement, carbon other than fuel", 5, 0, &[line(22, 1, 0, 2_000, 10_000, 1_000)], co2(7_328));
+    let kilns = carbonates.iter().enumerate().map(kiln);
+    kilns.chain(acids.iter().zip(&grams_of_n2o).enumerate().map(plant)).chain([other]).collect()
 }

@@ -1,8 +1,8 @@
-//! Document 01's sums done by hand, and the source documents' own pairs of carbon content and CO2 factor.
+//! Sums whose results are known: document 01's by hand, the source documents' own pairs, rounding, every factor.
 
 use reference::calls::calculate;
 use reference::report::Report;
-use reference::sums::{by_hand, printed, Known, Sum};
+use reference::sums::{by_hand, factors, printed, rounding, Known, Sum};
 
 fn calculated(sum: &Sum) -> Known {
     let mut buffer = [0; 96];
@@ -16,16 +16,28 @@ fn calculated(sum: &Sum) -> Known {
     Known::Grams(masses, masses.equivalent() as u64)
 }
 
-#[test]
-fn sums_done_by_hand() {
-    for sum in by_hand() {
+fn compare(sums: Vec<Sum>) {
+    for sum in sums {
         assert_eq!(calculated(&sum), sum.known, "{}", sum.name);
     }
 }
 
 #[test]
+fn sums_done_by_hand() {
+    compare(by_hand());
+}
+
+#[test]
 fn printed_factors_of_the_source_documents() {
-    for sum in printed() {
-        assert_eq!(calculated(&sum), sum.known, "{}", sum.name);
-    }
+    compare(printed());
+}
+
+#[test]
+fn sums_are_rounded_once() {
+    compare(rounding());
+}
+
+#[test]
+fn every_factor() {
+    compare(factors());
 }

@@ -1,4 +1,4 @@
-//! Refusals 6 and 7, rounding, and the exact sums behind them.
+//! Refusals 6 and 7, and the exact sums behind them.
 
 use super::{calculation_accepted, calculation_refused, group, Case, Group};
 use crate::draft::{boiler, line, register, source, DraftSource};
@@ -9,8 +9,6 @@ pub fn groups() -> Vec<Group> {
         group("6: CO2 sums at zero and below it.", zero()),
         group("7: equivalents at 10^15 and above it.", limit()),
         group("6 and 7, turn: source by source.", turns()),
-        group("Rounding: once for each gas of a source, an exact half upward.", rounding()),
-        group("Every carbonate and every acid plant.", factors()),
     ]
 }
 
@@ -124,48 +122,4 @@ fn turns() -> Vec<Case> {
         calculation_refused("6 at 0 and 7 at 1", &of(vec![below(9), above(1)]), 6, 0),
         calculation_refused("6 at 1 and 2", &of(vec![boiler(3), below(2), below(1)]), 6, 1),
     ]
-}
-
-fn rounding() -> Vec<Case> {
-    let half = carbon(10, 15_625, 1); // 57.25 g; twice that is 114.5
-    let fuel = |content| line(1, 1, 3, content, 10_000, 1);
-    let acid = |quantity| line(30, 1, 0, 0, 0, quantity);
-    let calcite = |b| line(20, 1, 1, 1_000_000, b, 1);
-    let gas = |content| line(2, 1, 0, content, 10_000, 1);
-    vec![
-        accepted("57.25 g twice is 115", 3, 0, &[half, half]),
-        accepted("114.5 g three times is 344", 1, 0, &[fuel(31_250); 3]),
-        accepted("0.4 g twice is 1", 1, 0, &[fuel(109); 2]),
-        accepted("171.75 g less 57.25 g is 115", 3, 0, &[half, half, half, carbon(11, 15_625, 1)]),
-        accepted("343.5 g less 57.25 g is 286", 3, 0, &[carbon(10, 93_750, 1), carbon(11, 15_625, 1)]),
-        accepted("calcite, 5.5 g is 6", 5, 0, &[calcite(125)]),
-        accepted("calcite, 5.456 g is 5", 5, 0, &[calcite(124)]),
-        accepted("methane, half a gram is 1", 2, 0, &[gas(500)]),
-        accepted("methane, under half a gram is 0", 2, 0, &[gas(499)]),
-        accepted("methane, a quarter gram twice is 1", 2, 0, &[gas(250); 2]),
-        accepted(
-            "a flare's kinds, other share and quantity",
-            2,
-            0,
-            &[line(1, 2, 0, 900_000, 50, 7), line(2, 1, 0, 300, 9, 11)],
-        ),
-        accepted("acid 2, 2.5 g is 3", 6, 2, &[acid(1)]),
-        accepted("acid 4, 7.5 g twice is 15", 6, 4, &[acid(1); 2]),
-        accepted("acid 6, half a gram in two lines is 1", 6, 6, &[acid(999), acid(1)]),
-    ]
-}
-
-fn factors() -> Vec<Case> {
-    let mut cases = vec![];
-    for (code, name) in [(1, "CaCO3"), (2, "MgCO3"), (3, "CaMg(CO3)2"), (4, "FeCO3")] {
-        let charged = line(20, 1, code, 1_000_000, 10_000, 1_000);
-        let dust = line(21, 1, code, 1_000_000, 7_500, 1_000);
-        cases.push(accepted(&format!("{name}, a quarter in the dust"), 5, 0, &[charged, dust]));
-    }
-    for parameter in 1..=6 {
-        let acid = line(30, 1, 0, 0, 0, 10_000_000_000);
-        cases.push(accepted(&format!("acid {parameter}, largest quantity"), 6, parameter, &[acid]));
-    }
-    cases.push(accepted("cement, carbon other than fuel", 5, 0, &[carbon(22, 2_000, 1_000)]));
-    cases
 }

@@ -4,12 +4,14 @@ use super::{accepted, calculation_accepted, group, refused, Case, Group};
 use crate::call::Call;
 use crate::draft::{boilers, Draft};
 use crate::report::Report;
-use crate::sums::{by_hand, printed, Known, Sum};
+use crate::sums::{by_hand, factors, printed, rounding, Known, Sum};
 
 pub fn groups() -> Vec<Group> {
     vec![
         group("Document 01's sums done by hand, each as the only source of a register.", known(by_hand())),
         group("Rows of the source documents that print a carbon content and its CO2 factor.", known(printed())),
+        group("Rounding: once for each gas of a source, an exact half upward.", known(rounding())),
+        group("Every carbonate, a quarter of it in the dust, and every acid plant.", known(factors())),
         group("Document 01's example: sources 8 and 7, equal in name and line; and the empty register.", example()),
         group("The room of a calculation: exact, one short, none, longer.", rooms()),
     ]
