@@ -13,7 +13,7 @@ starred = record { each = refl }
 pub examples : Examples
 unfolding opened resultOf calculates twins made reportOfSources damaged named combining removing
 examples =
-    record { within = refl; once = refl; dust = refl; shown = refl; refused = refl; together = refl; apart = refl; name = refl; nameless = refl; names = refl; inBoth = refl }
+    record { within = refl; once = refl; dust = refl; shown = refl; refusal = refl; refused = refl; together = refl; apart = refl; name = refl; nameless = refl; names = refl; inBoth = refl }
 
 pub kinds : Kinds
 unfolding opened resultOf calculates
@@ -22,4 +22,3 @@ kinds = record { each = refl }
 pub byHand : ByHand
 unfolding opened
 byHand = record { sources = refl; register = refl; report = refl; entries = refl; written = refl; text = refl }
-    record { once = refl; dust = refl; shown = refl; refusal = refl; refused = refl; together = refl; apart = refl; name = refl; nameless = refl; names = refl; inBoth = refl }
