@@ -4,7 +4,7 @@ use mathlib.Core.List.{List, [], _∷_, _++_, map}
 use mathlib.Core.Path.{_≡_, refl, sym, ap, _∙_}
 use Prim.Native.Nat.{ℕ, zero, suc, _+_, _*_, _≤_, _<_, zero-le, suc-le-suc}
 use native.Mathlib.Decide.{decLt}
-use native.Mathlib.Nat.{add-zero, not-suc-le-zero, le-of-suc-le-suc}
+use native.Mathlib.Nat.{add-zero, zero-add, not-suc-le-zero, le-of-suc-le-suc}
 use native.Mathlib.Omega.{arith}
 use lib.ListN.{length, getD, take, replicate}
 use Rattle.basis.specs.Lists.{Each, sum, countUp, any}
@@ -34,6 +34,15 @@ unfolding countUp
 getD-counted f d zero j i l = absurd (not-suc-le-zero l)
 getD-counted f d (suc n) j zero l = ap f (omega arith)
 getD-counted f d (suc n) j (suc i) l = getD-counted f d n (j + 1) i (le-of-suc-le-suc l) ∙ ap f (omega arith)
+
+-- counting up goes on where it stopped
+pub counted-append : {A : Type 0} (f : ℕ → A) (x p q : ℕ) → map f (countUp x (p + q)) ≡ map f (countUp x p) ++ map f (countUp (x + p) q)
+unfolding countUp
+counted-append f x zero q = rw (zero-add q, add-zero x)
+counted-append f x (suc p) q =
+    let e : suc p + q ≡ suc (p + q) = omega arith in
+    let g : x + 1 + p ≡ x + suc p = omega arith in
+    rw (e, counted-append f (x + 1) p q, g)
 
 -- within a list the default does not count
 pub getD-either : {A : Type 0} (xs : List A) (i : ℕ) (d e : A) → i < length xs → getD xs i d ≡ getD xs i e

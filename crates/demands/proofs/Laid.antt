@@ -14,6 +14,7 @@ use Rattle.meaning.specs.declared.RawLine.{RawLine}
 use Rattle.meaning.specs.Register.{yearOf, sourceCount, lineCount, nameBytes, sourceLength, lineLength, sourcesAt, linesAt, namesAt, wholeLength, lineOf, lineAt, sourceEntry, firstLineIn, lineCountIn, nameLengthIn, namePlace, sourceAt, sourcesOf, lineStart, nameStart, lineBytes, sourceEntries, registerHeader, encode}
 use Rattle.demands.specs.Valid.{LaidRight, LineFits, SourceFits, Encodable}
 use Rattle.basis.proofs.Rows.{numberAt-drop, numberAt-fits, unpacked, packed-unpacked, bytes-drop, bytes-take, write-rows}
+use Rattle.basis.proofs.Counting.{counted-append}
 use Rattle.demands.proofs.RegisterTests.{length-sources}
 use Rattle.demands.proofs.Calculation.{standing, next-line, last-line, last-name}
 use Rattle.demands.proofs.EncodedEntries.{lineWidths, lineNumbers, rowsOf, linesOf, namesOf, entryWidths, entryNumbers}
@@ -44,14 +45,6 @@ module _ {A : Type 0} (piece : ℕ → ℕ → List A) (none : (x : ℕ) → pie
   pieces-whole f s c k n start end h =
       let r = pieces-join f s c k 0 (λ i l m. h i (omega arith)) in
       r .2 ∙ ap₂ piece start (omega (arith, r .1, ap s (zero-add k)))
-
-counted-append : {A : Type 0} (f : ℕ → A) (x p q : ℕ) → map f (countUp x (p + q)) ≡ map f (countUp x p) ++ map f (countUp (x + p) q)
-unfolding countUp
-counted-append f x zero q = rw (zero-add q, add-zero x)
-counted-append f x (suc p) q =
-    let e : suc p + q ≡ suc (p + q) = omega arith in
-    let g : x + 1 + p ≡ x + suc p = omega arith in
-    rw (e, counted-append f (x + 1) p q, g)
 
 -- a line that is read and written again is what stood there
 numbers-line : (r : List ℕ) → unpacked lineWidths r ≡ lineNumbers (lineOf r)

@@ -1,12 +1,16 @@
 use borrow.Author.Needs.{needs}
+use native.Mathlib.Omega.{arith}
+use Prim.Native.Nat.{_-_}
+use Rattle.masses.specs.Lines.{Summed}
+use Rattle.masses.proofs.Reading.{summed-none, reads-all, reads-stop, summed-turn, good-fits, roomy-one}
 use Rattle.masses.proofs.read_lines.Statement.{statement}
 use Rattle.masses.proofs.read_lines.Tie as tie
 
 abbrev Inv-loop : tie.InvT-loop
-Inv-loop register method parameter base first end sums₀ at₀ sums at = ?
+Inv-loop register method parameter base first end sums₀ at₀ sums at = Summed register method parameter first end sums at
 
 abbrev μ-loop : tie.MeasureT-loop
-μ-loop register method parameter base first end sums₀ at₀ sums at = ?
+μ-loop register method parameter base first end sums₀ at₀ sums at = end - at
 
 pub read-lines-spec : {M : Type 1} → statement M
 read-lines-spec =
@@ -14,16 +18,16 @@ read-lines-spec =
     (tie.spec
     Inv-loop
     μ-loop
-    (λ c. search needs) -- loop-holds
-    (λ c. search needs) -- mul-line-at
-    (λ c. search needs) -- add-line-at
-    (λ c κs. search needs) -- line-at-requires
-    (λ c κs. search needs) -- decode-requires
-    (λ c. search needs) -- enum-known-decoded
-    (λ c. search needs) -- enum-told
-    (λ c. search needs) -- returns
-    (λ c κs. search needs) -- with-line-requires
-    (λ c. search needs) -- add-at
-    (λ c. search needs) -- loop-less
-    (λ c. search needs) -- loop-again
-    (λ c. search needs)) -- returns-2
+    (λ c. search (needs, summed-none))
+    (λ c. omega arith)
+    (λ c. omega arith)
+    (λ c κs. omega arith)
+    (λ c κs. search needs)
+    (λ c. search needs)
+    (λ c. search needs)
+    (λ c. search (needs, reads-stop))
+    (λ c κs. let f = good-fits (c .before .before .before .decode .ensures .1) (c .before .decoded .given .1) in (search (needs, roomy-one), f .0, f .1))
+    (λ c. omega arith)
+    (λ c. omega arith)
+    (λ c. summed-turn (c .before .before .before .before .before .before .before .before .before .pre) (search needs) (omega arith) (c .before .before .before .before .before .line-at .ensures) (c .before .before .before .before .decode .ensures) (c .before .before .decoded .given .1) (c .with-line .ensures))
+    (λ c. search (needs, reads-all)))

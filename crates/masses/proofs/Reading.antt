@@ -1,0 +1,122 @@
+-- The lines of a source, one more at each turn. Assumes nothing.
+use mathlib.Core.Bool.{true, false}
+use mathlib.Core.List.{List, [], _∷_, _++_, map, map-append}
+use mathlib.Core.Path.{_≡_, refl, sym, ap, subst, _∙_}
+use Prim.Native.Nat.{ℕ, zero, suc, _+_, _*_, _-_, _≤_, _<_}
+use native.Mathlib.Decide.{decLt}
+use native.Mathlib.Nat.{add-zero, zero-mul, add-mul}
+use native.Mathlib.Omega.{arith}
+use lib.ListN.{length, getD, drop, replicate, getD-replicate}
+use Rattle.basis.specs.Lists.{sum, countUp}
+use Rattle.basis.proofs.Lists.{sum-append}
+use Rattle.basis.proofs.Counting.{counted-append}
+use Rattle.meaning.specs.declared.Line.{Line}
+use Rattle.meaning.specs.declared.RawLine.{RawLine}
+use Rattle.meaning.specs.declared.Decoded.{Decoded}
+use Rattle.meaning.specs.declared.Decoded.the-variants.{Good, Bad}
+use Rattle.meaning.specs.Methods.{mostQuantity, decoded, isBad}
+use Rattle.methods.specs.Ranges.{KindFits, LineFits}
+use Rattle.meaning.specs.Register.{mostLines, lineLength, lineOf}
+use Rattle.meaning.specs.Masses.{gasCount, carbonDioxide, added, taken, addsTo, takesFrom}
+use Rattle.exact.specs.Amounts.{value, scale, nothing, Room}
+use Rattle.exact.proofs.Amounts.{value-nothing, room-first, room-less}
+use Rattle.masses.specs.declared.Sums.{Sums}
+use Rattle.masses.specs.declared.Read.{Read}
+use Rattle.masses.specs.Sums.{Roomy, More, Counts}
+use Rattle.masses.specs.Lines.{readAt, readFrom, Lines, Holds, Summed, Reads}
+
+-- one line more is read behind the others
+read-more : (b : List ℕ) (m p first k : ℕ) → readFrom b m p first (k + 1) ≡ readFrom b m p first k ++ (readAt b m p (first + k) ∷ [])
+unfolding readFrom countUp
+read-more b m p first k = counted-append (readAt b m p) first k 1
+
+added-more : (gas : ℕ) (ls : List Decoded) (d : Decoded) → added gas (ls ++ (d ∷ [])) ≡ added gas ls + addsTo gas d
+unfolding added sum
+added-more gas ls d = ap sum (map-append (addsTo gas) ls (d ∷ [])) ∙ sum-append (map (addsTo gas) ls) (addsTo gas d ∷ []) ∙ ap (λ (n : ℕ). added gas ls + n) (add-zero (addsTo gas d))
+
+taken-more : (gas : ℕ) (ls : List Decoded) (d : Decoded) → taken gas (ls ++ (d ∷ [])) ≡ taken gas ls + takesFrom gas d
+unfolding taken sum
+taken-more gas ls d = ap sum (map-append (takesFrom gas) ls (d ∷ [])) ∙ sum-append (map (takesFrom gas) ls) (takesFrom gas d ∷ []) ∙ ap (λ (n : ℕ). taken gas ls + n) (add-zero (takesFrom gas d))
+
+holds-more : (ls : List Decoded) (l : Line) (s r : Sums) → Holds ls s → Counts s l r → Holds (ls ++ (Good l ∷ [])) r
+holds-more ls l s r h c =
+    record {
+      added = λ gas g. c .added gas g .is ∙ rw (h .added gas g, added-more gas ls (Good l)) (sym (add-mul (added gas ls) (addsTo gas (Good l)) (scale gas)));
+      taken = c .taken .is ∙ rw (h .taken, taken-more carbonDioxide ls (Good l)) (sym (add-mul (taken carbonDioxide ls) (takesFrom carbonDioxide (Good l)) (scale carbonDioxide)));
+    }
+
+roomy-more : {lines : ℕ} {s r : Sums} {l : Line} → Roomy (lines + 1) s → Counts s l r → Roomy lines r
+roomy-more {lines} o c = record { gases = c .gases; added = λ gas g. c .added gas g .roomy lines (o .added gas g); taken = c .taken .roomy lines (o .taken) }
+
+-- nothing is summed before the first line
+abbrev pub none : Sums
+none = record { added = replicate gasCount nothing; taken = nothing }
+
+none-at : (gas : ℕ) → gas < gasCount → getD (none .added) gas nothing ≡ nothing
+none-at gas g = getD-replicate gasCount gas nothing nothing g
+
+none-roomy : (lines : ℕ) → lines ≤ mostLines → Roomy lines none
+none-roomy lines l =
+    record { gases = refl; added = λ gas g. rw (none-at gas g) (room-less room-first l); taken = room-less room-first l }
+
+none-holds : Holds [] none
+unfolding added taken sum
+none-holds = record { added = λ gas g. rw (none-at gas g) (value-nothing ∙ sym (zero-mul (scale gas))); taken = value-nothing }
+
+pub summed-none : {b : List ℕ} {m p base first end : ℕ} → Lines b m p base first end → Summed b m p first end none first
+unfolding readFrom countUp
+summed-none {first = first} {end = end} h =
+    let z : first - first ≡ 0 = omega arith in
+    record {
+      low = omega arith;
+      high = h .order;
+      good = λ k l g. absurd (omega arith);
+      held = rw z none-holds;
+      room = none-roomy (end - first) (omega (arith, h .few));
+    }
+
+-- one more line, which is good
+pub summed-more : {b : List ℕ} {m p first end at : ℕ} {s r : Sums} {l : Line} → Summed b m p first end s at → at < end → readAt b m p at ≡ Good l → Counts s l r
+    → Summed b m p first end r (at + 1)
+summed-more {b} {m} {p} {first} {end} {at} {s} {r} {l} h less e c =
+    let k : at + 1 - first ≡ at - first + 1 = omega (arith, h .low) in
+    let f : first + (at - first) ≡ at = omega (arith, h .low) in
+    let o : end - at ≡ end - (at + 1) + 1 = omega arith in
+    record {
+      low = omega (arith, h .low);
+      high = omega arith;
+      good = λ j l g. before j l g (decLt j at);
+      held = rw (k, read-more b m p first (at - first), f, e) (holds-more (readFrom b m p first (at - first)) l s r (h .held) c);
+      room = roomy-more (rw o at (h .room)) c;
+    }
+  where
+    before : (j : ℕ) → first ≤ j → j < at + 1 → Dec (j < at) → isBad (readAt b m p j) ≡ false
+    before j l g (yes q) = h .good j l q
+    before j l g (no q) = let z : j ≡ at = omega arith in rw (z, e)
+
+-- a line that is bad ends it, and so does the end
+pub reads-bad : {b : List ℕ} {m p first end at : ℕ} {s : Sums} → Summed b m p first end s at → readAt b m p at ≡ Bad → Reads b m p first end (record { at = at; sums = s })
+reads-bad h e = record { summed = h; bad = λ l. rw e }
+
+pub reads-all : {b : List ℕ} {m p first end at : ℕ} {s : Sums} → Summed b m p first end s at → end ≤ at → Reads b m p first end (record { at = at; sums = s })
+reads-all h l = record { summed = h; bad = λ g. absurd (omega arith) }
+
+-- what decoding makes of the bytes at a line's place is the line read
+read-is : {b : List ℕ} {m p base first end : ℕ} {raw : RawLine} {d : Decoded} (at : ℕ) → Lines b m p base first end → raw ≡ lineOf (drop (base + lineLength * at) b) → d ≡ decoded m p raw
+    → readAt b m p at ≡ d
+read-is {b} {m} {p} at h r e = sym (e ∙ ap (decoded m p) (r ∙ ap (λ (x : ℕ). lineOf (drop (x + lineLength * at) b)) (h .begin)))
+
+-- the turns of the loop: a bad line ends it, a good one is counted
+pub reads-stop : {b : List ℕ} {m p base first end at : ℕ} {s : Sums} {raw : RawLine} {d : Decoded} → Lines b m p base first end → Summed b m p first end s at
+    → raw ≡ lineOf (drop (base + lineLength * at) b) → (d ≡ decoded m p raw) × LineFits d → d ≡ Bad → Reads b m p first end (record { at = at; sums = s })
+reads-stop {at = at} h s r e z = reads-bad s (read-is at h r (e .0) ∙ z)
+
+pub summed-turn : {b : List ℕ} {m p base first end at : ℕ} {s r : Sums} {raw : RawLine} {d : Decoded} {l : Line} → Lines b m p base first end → Summed b m p first end s at → at < end
+    → raw ≡ lineOf (drop (base + lineLength * at) b) → (d ≡ decoded m p raw) × LineFits d → d ≡ Good l → Counts s l r → Summed b m p first end r (at + 1)
+summed-turn {at = at} h s less r e z c = summed-more s less (read-is at h r (e .0) ∙ z) c
+
+pub good-fits : {d : Decoded} {l : Line} → LineFits d → d ≡ Good l → (l .quantity ≤ mostQuantity) × KindFits (l .kind)
+good-fits {d} {l} f e = subst LineFits e f
+
+pub roomy-one : {b : List ℕ} {m p first end at : ℕ} {s : Sums} → Summed b m p first end s at → at < end → Roomy 1 s
+roomy-one h l = record { gases = h .room .gases; added = λ gas g. room-less (h .room .added gas g) (omega arith); taken = room-less (h .room .taken) (omega arith) }
