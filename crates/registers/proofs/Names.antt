@@ -1,6 +1,6 @@
 -- The lookups: a register that is accepted, a number in it, and where its name stands. Assumes nothing.
 use mathlib.Core.Bool.{Bool, true, false, cond, not, _&&_}
-use mathlib.Core.List.{List, [], _∷_}
+use mathlib.Core.List.{List}
 use mathlib.Core.Path.{_≡_, refl, sym, ap, _∙_}
 use Prim.Native.Nat.{ℕ, _+_, _^_, _≤_, _<_}
 use native.Mathlib.Omega.{arith}
@@ -11,21 +11,20 @@ use lib.ListN.{length}
 use Rattle.basis.specs.declared.Verdict.{Verdict}
 use Rattle.basis.specs.declared.Verdict.the-variants.{Passes, Refuses}
 use Rattle.basis.specs.Answers.{firstRefusal, passes}
-use Rattle.basis.proofs.Answers.{passed-at-all, passed-append, each-passes}
 use Rattle.basis.proofs.Bools.{clash, and-true, or-false}
 use Rattle.fields.specs.Fields.{Field}
 use Rattle.meaning.specs.declared.Part.{Part}
 use Rattle.meaning.specs.declared.Found.{Found}
-use Rattle.meaning.specs.Register.{sourceCount, sourceEntry, namePlace, lengthTest, headerTests, sourceAt, misplaced, unsound, wrongSource, sourceTest, restTest, registerTests}
+use Rattle.meaning.specs.Register.{sourceCount, sourceEntry, namePlace, sourceAt, misplaced, unsound, wrongSource, registerTests}
 use Rattle.meaning.specs.Calls.{accepted, hasNumber, indexOf, holds, nameAt, found, inRegister, foundOfTwo}
 use Rattle.meaning.proofs.Sources.{Placed, placed}
 use Rattle.registers.specs.declared.Sought.{Sought}
-use Rattle.registers.specs.Layout.{layoutTests, Headed}
+use Rattle.registers.specs.Layout.{Headed}
 use Rattle.registers.specs.Keys.{Tested}
 use Rattle.registers.specs.Lookups.{Seeks}
 use Rattle.registers.proofs.sources.Entries.{has-entry}
 use Rattle.registers.proofs.Scans.{Scanning, scan-none, scan-found, scan-more, scan-all}
-use Rattle.registers.proofs.Tested.{passed-layout, layout-headed}
+use Rattle.registers.proofs.Tested.{passed-headed, passed-right}
 
 pub accepted-is : {b keys left : List ℕ} {v : Verdict} {ok : Bool} → Tested b keys v left → ok ≡ passes v → ok ≡ accepted b
 unfolding accepted
@@ -33,26 +32,23 @@ accepted-is t e = e ∙ ap passes (t .verdict)
 
 -- what a register that is accepted keeps
 module _ (b : List ℕ) (e : accepted b ≡ true) where
-  layout-passes : firstRefusal (layoutTests b) ≡ Passes
+  accepted-passes : firstRefusal (registerTests b) ≡ Passes
   unfolding accepted
-  layout-passes = passed-layout b (by (firstRefusal (registerTests b)) e)
+  accepted-passes = by (firstRefusal (registerTests b)) e
     where
       by : (v : Verdict) → passes v ≡ true → v ≡ Passes
       by Passes f = refl
       by (Refuses n p) f = absurd (clash f refl)
 
   pub accepted-headed : Headed b
-  accepted-headed = layout-headed b (sym layout-passes) refl
+  accepted-headed = passed-headed b accepted-passes
 
   pub accepted-counts : 10 ≤ length b
   accepted-counts = omega (arith, accepted-headed .whole)
 
   accepted-placed : (i : ℕ) → i < sourceCount b → Placed b i
-  unfolding layoutTests sourceTest wrongSource
-  accepted-placed i l =
-      let back = passed-append (lengthTest b ∷ headerTests b) (sourceTest b ∷ restTest b ∷ []) layout-passes .1 in
-      let none = passed-at-all 3 (wrongSource b) (sourceCount b) .0 (each-passes (sourceTest b ∷ restTest b ∷ []) back .0) in
-      placed b i (or-false (misplaced b i) (unsound (sourceAt b i)) (none i l) .0)
+  unfolding wrongSource
+  accepted-placed i l = placed b i (or-false (misplaced b i) (unsound (sourceAt b i)) (passed-right b accepted-passes i l) .0)
 
 pub accepted-by : {ok : Bool} (b : List ℕ) → ok ≡ accepted b → ok ≡ true → accepted b ≡ true
 accepted-by b e f = sym e ∙ f
