@@ -1,3 +1,4 @@
+use native.Mathlib.Omega.{arith}
 use borrow.Author.Needs.{needs}
 use Rattle.registers.proofs.Names.{within}
 use Rattle.registers.proofs.name_of.Statement.{statement}
@@ -8,5 +9,5 @@ name-of-spec =
     tie.close
     (tie.spec
     (search needs)
-    (λ c κs. search (needs, within))
+    (λ c κs. omega (arith, within _ _ (c .name-place .ensures)))
     (λ c. rw (← c .before .name-place .ensures) (c .part .ensures)))
