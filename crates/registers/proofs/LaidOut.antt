@@ -34,7 +34,7 @@ headed b e =
 module _ (b : List ℕ) where
   pub short : length b < sourcesAt → Refuses 1 0 ≡ firstRefusal (layoutTests b)
   unfolding layoutTests firstRefusal
-  short h = rw (lt-ltb (length b) 32 h)
+  short h = rw (lt-ltb (length b) sourcesAt h)
 
   pub header-passes : {v : Verdict} → v ≡ firstRefusal (headerTests b) → v ≡ Passes → Headed b
   header-passes e f = headed b (sym e ∙ f)
@@ -42,10 +42,10 @@ module _ (b : List ℕ) where
   module _ (h : sourcesAt ≤ length b) {v : Verdict} (e : v ≡ firstRefusal (headerTests b)) where
     pub header-refused : {n p : ℕ} → v ≡ Refuses n p → v ≡ firstRefusal (layoutTests b)
     unfolding layoutTests firstRefusal
-    header-refused f = f ∙ rw (le-ltb (length b) 32 h) (sym (refused-then (headerTests b) (sourceTest b ∷ restTest b ∷ []) (sym e ∙ f)))
+    header-refused f = f ∙ rw (le-ltb (length b) sourcesAt h) (sym (refused-then (headerTests b) (sourceTest b ∷ restTest b ∷ []) (sym e ∙ f)))
 
     pub header-passed : {w : Verdict} → v ≡ Passes → w ≡ overSources b → w ≡ firstRefusal (layoutTests b)
     unfolding layoutTests firstRefusal
-    header-passed f g = g ∙ rw (le-ltb (length b) 32 h) (sym (passed-then (headerTests b) (sourceTest b ∷ restTest b ∷ []) (sym e ∙ f)))
+    header-passed f g = g ∙ rw (le-ltb (length b) sourcesAt h) (sym (passed-then (headerTests b) (sourceTest b ∷ restTest b ∷ []) (sym e ∙ f)))
 
 pub ruleset layout = (needs, short, header-passes, header-refused, header-passed)

@@ -2,7 +2,7 @@
 use mathlib.Core.Bool.{Bool, true, false, cond, not, _&&_}
 use mathlib.Core.List.{List}
 use mathlib.Core.Path.{_≡_, refl, sym, ap, _∙_}
-use Prim.Native.Nat.{ℕ, _+_, _^_, _≤_, _<_}
+use Prim.Native.Nat.{ℕ, _+_, _≤_, _<_}
 use native.Mathlib.Omega.{arith}
 use borrow.Author.Needs.{needs}
 use borrow.Author.Tests.{ltb-true, lt-ltb, le-ltb}
@@ -101,10 +101,10 @@ pub sought-refused : {number : ℕ} {ok : Bool} (b : List ℕ) → ok ≡ accept
 unfolding found
 sought-refused b e f = let r : accepted b ≡ false = sym e ∙ f in record { taken = sym r; holding = rw r; place = rw r }
 
-pub name-there : {start size : ℕ} (b : List ℕ) (i : ℕ) → (start ≡ namePlace b i) × (start < 2 ^ 40) → Field 2 (sourceEntry b i) 10 size
+pub name-there : {start size : ℕ} (b : List ℕ) (i : ℕ) → start ≡ namePlace b i → Field 2 (sourceEntry b i) 10 size
     → _≡_ {A = Part} (record { offset = start; length = size }) (nameAt b i)
 unfolding nameAt
-name-there b i p f = rw (p .0, f .is)
+name-there b i p f = rw (p, f .is)
 
 pub ruleset seeking =
     (needs, accepted-is, accepted-by, accepted-headed, accepted-counts, has-entry, sought-held, sought-absent, sought-refused, name-there)

@@ -2,7 +2,7 @@
 ghost use mathlib.Core.Bool.{_||_};
 ghost use mathlib.Core.List.{[], _∷_};
 ghost use mathlib.Core.Path.{_≡_};
-ghost use Prim.Native.Nat.{_+_, _^_, _≤_, _<_};
+ghost use Prim.Native.Nat.{_+_, _≤_, _<_};
 ghost use lib.ListN.{length};
 ghost use Rattle.basis.specs.Lists.{any};
 ghost use Rattle.basis.specs.Answers.{firstRefusal};
@@ -110,7 +110,7 @@ fn has_bad_byte(name: &[u8]) -> bool
 // Where the name of entry i begins.
 pub fn name_start(register: &[u8], i: usize) -> usize
     requires { ⌜ HasEntry (now register) i ⌝ }
-    ensures { λ r. ⌜ (r ≡ namePlace (now (register .entry)) i) × (r < 2 ^ 40) ⌝ }
+    ensures { λ r. ⌜ r ≡ namePlace (now (register .entry)) i ⌝ }
 {
     let n = fields::u16_at(register, 8) as usize;
     let m = fields::u16_at(register, 10) as usize;

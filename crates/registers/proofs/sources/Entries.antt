@@ -2,7 +2,7 @@
 use mathlib.Core.Bool.{Bool, true, false, not, _||_}
 use mathlib.Core.List.{List}
 use mathlib.Core.Path.{_≡_, refl, sym, _∙_}
-use Prim.Native.Nat.{ℕ, _+_, _*_, _^_, _≤_, _<_}
+use Prim.Native.Nat.{ℕ, _+_, _*_, _≤_, _<_}
 use native.Mathlib.Numerals.{add-one}
 use native.Mathlib.Omega.{arith}
 use borrow.Author.Needs.{needs}
@@ -15,7 +15,7 @@ use Rattle.basis.proofs.Lists.{length-countUp}
 use Rattle.basis.proofs.Rows.{numberAt-drop}
 use Rattle.fields.specs.Fields.{Field}
 use Rattle.meaning.specs.Methods.{listed, within}
-use Rattle.meaning.specs.Register.{sourceCount, sourceEntry, nameLengthIn, namePlace, sourceAt, lineStart, nameStart, misplaced, badNameByte, unsound, wrongSource}
+use Rattle.meaning.specs.Register.{sourcesAt, sourceCount, sourceLength, sourceEntry, nameLengthIn, namePlace, sourceAt, lineStart, nameStart, misplaced, badNameByte, unsound, wrongSource}
 use Rattle.meaning.proofs.Sources.{placed}
 use Rattle.registers.specs.Layout.{Headed, HasEntry, HasName, Begins}
 
@@ -23,8 +23,8 @@ use Rattle.registers.specs.Layout.{Headed, HasEntry, HasName, Begins}
 pub has-entry : {b : List ℕ} {n i : ℕ} → Headed b → n ≡ sourceCount b → i < n → HasEntry b i
 has-entry h e l = record { head = h; below = omega arith }
 
-pub field-in : {k n : ℕ} {b : List ℕ} (i at : ℕ) → Field k b (32 + 16 * i + at) n → Field k (sourceEntry b i) at n
-field-in {k} {b = b} i at f = record { is = f .is ∙ sym (numberAt-drop k b (32 + 16 * i) at); small = f .small }
+pub field-in : {k n : ℕ} {b : List ℕ} (i at : ℕ) → Field k b (sourcesAt + sourceLength * i + at) n → Field k (sourceEntry b i) at n
+field-in {k} {b = b} i at f = record { is = f .is ∙ sym (numberAt-drop k b (sourcesAt + sourceLength * i) at); small = f .small }
 
 module _ (b : List ℕ) (i : ℕ) where
   pub line-end : {first count : ℕ} → Field 2 (sourceEntry b i) 8 first → Field 2 (sourceEntry b i) 6 count → first + count ≡ lineStart b (i + 1)
@@ -60,10 +60,10 @@ module _ (b : List ℕ) (i : ℕ) where
       rw (n .is, e, k .is, p .is, l .is, s .is, name, length-map, length-countUp)
 
   -- the part at its place is the source's name
-  pub name-is : {A : Type 0} {base : A} {from start size : ℕ} {held : List ℕ} {place : A × ℕ} {bad : Bool} → (start ≡ namePlace b i) × (start < 2 ^ 40)
+  pub name-is : {A : Type 0} {base : A} {from start size : ℕ} {held : List ℕ} {place : A × ℕ} {bad : Bool} → start ≡ namePlace b i
       → Field 2 (sourceEntry b i) 10 size → Shows b base from start size held place → bad ≡ any badNameByte held → bad ≡ any badNameByte (sourceAt b i .name)
   unfolding sourceAt
-  name-is p f s e = e ∙ rw (s .holds, p .0, f .is)
+  name-is p f s e = e ∙ rw (s .holds, p, f .is)
 
 -- the bytes passed are good, and those that are left decide
 pub record Looked (name : List ℕ) (i : ℕ) : Type 0 where
