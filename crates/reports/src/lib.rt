@@ -90,13 +90,13 @@ fn are_totals_right(report: &[u8], totals: &[u64; FIGURES]) -> bool
     requires { ⌜ (entriesAt ≤ length (now report)) × (now totals ≡ Report·totals (entriesOf (now report))) ⌝ }
     ensures { λ r. ⌜ r ≡ not (any (wrongTotal (now (report .entry))) (countUp 0 figureCount)) ⌝ }
 {
-    let mut k: usize = 0;
-    while k < FIGURES {
-        let wrong = fields::u64_at(report, 24 + 8 * k) != totals[k];
+    let mut figure: usize = 0;
+    while figure < FIGURES {
+        let wrong = fields::u64_at(report, 24 + 8 * figure) != totals[figure];
         if wrong {
             return false;
         }
-        k += 1;
+        figure += 1;
     }
     true
 }

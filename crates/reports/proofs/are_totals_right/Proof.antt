@@ -5,10 +5,10 @@ use Rattle.reports.proofs.are_totals_right.Statement.{statement}
 use Rattle.reports.proofs.are_totals_right.Tie as tie
 
 abbrev Inv-loop : tie.InvT-loop
-Inv-loop report totals k₀ k = Compared report k
+Inv-loop report totals figure₀ figure = Compared report figure
 
 abbrev μ-loop : tie.MeasureT-loop
-μ-loop report totals k₀ k = figureCount - k
+μ-loop report totals figure₀ figure = figureCount - figure
 
 pub are-totals-right-spec : {M : Type 1} → statement M
 are-totals-right-spec =

@@ -10,13 +10,13 @@ pub carry-entry-spec : {M : Type 1} → statement M
 carry-entry-spec =
     tie.close
     (tie.spec
+    (omega arith)
+    (omega arith)
+    (omega arith)
     (λ c. search needs)
-    (λ c. search needs)
-    (λ c. search needs)
-    (λ c. search needs)
-    (λ c. search needs)
-    (λ c. search needs)
-    (λ c. search needs)
+    (omega arith)
+    (omega arith)
+    (omega arith)
     (λ c κs. search needs)
     (λ c. search needs)
     (λ c κs. search needs)
