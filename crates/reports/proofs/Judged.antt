@@ -1,16 +1,14 @@
 -- A report judged: its header by the fields that were read, and the whole by its header and its entries. Assumes nothing.
 use mathlib.Core.Bool.{Bool, true, false, not, _&&_}
 use mathlib.Core.List.{List}
-use mathlib.Core.Path.{_≡_, refl, sym, ap, _∙_}
+use mathlib.Core.Path.{_≡_, sym, _∙_}
 use Prim.Native.Nat.{ℕ, _+_, _*_, _≤_, _<_}
 use native.Mathlib.Omega.{arith}
 use borrow.Author.Tests.{ne-eqb}
 use lib.Dec.{eqb, leb}
 use lib.ListN.{length}
-use Rattle.basis.specs.declared.Answer.{Answer}
 use Rattle.basis.specs.Bytes.{startsWith}
 use Rattle.basis.specs.Lists.{countUp, any}
-use Rattle.meaning.specs.Methods.{within}
 use Rattle.meaning.specs.Register.{mostSources}
 use Rattle.meaning.specs.Report.{figureCount, reportTag, entriesAt, reportLength, entryCount, headerRight, wrongEntry, wrongTotal, wellFormed}
 use Rattle.meaning.specs.Calls.{checked}

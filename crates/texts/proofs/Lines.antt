@@ -1,7 +1,7 @@
 -- Fields and lines as they are written, and how long they are. Assumes nothing.
 use mathlib.Core.List.{List, [], _∷_, _++_, append-assoc}
 use mathlib.Core.Path.{_≡_, refl, sym, ap, _∙_}
-use Prim.Native.Nat.{ℕ, zero, suc, _+_, _*_, _-_, _≤_, _<_}
+use Prim.Native.Nat.{ℕ, suc, _+_, _-_, _≤_, _<_}
 use native.Mathlib.Numerals.{add-one}
 use native.Mathlib.Omega.{arith}
 use mir.Syntax.{w32, w64}
@@ -25,16 +25,16 @@ pub length-field : (n after : ℕ) → length (field n after) ≡ length (decima
 unfolding field
 length-field n after = length-append (decimal n) (after ∷ [])
 
-module _ {n k : ℕ} (at after : ℕ) (xs : List ℕ) (c : Counted n k) (h : at + length (field n after) ≤ length xs) where
+module _ {n k : ℕ} (at : ℕ) (xs : List ℕ) (c : Counted n k) (h : at + (length (decimal n) + 1) ≤ length xs) where
   pub field-room : at + k ≤ length xs
-  field-room = omega (arith, c .count, length-field n after)
+  field-room = omega (arith, c .count)
 
   pub field-last : {ys : List ℕ} → Written xs at (spelled k n) ys → at + k < length ys
-  field-last w = omega (arith, c .count, length-field n after, length-written w)
+  field-last w = omega (arith, c .count, length-written w)
 
-  pub field-put : {ys : List ℕ} → Written xs at (spelled k n) ys → Put xs at (field n after) (set ys (at + k) after) (at + k + 1)
+  pub field-put : (after : ℕ) {ys : List ℕ} → Written xs at (spelled k n) ys → Put xs at (field n after) (set ys (at + k) after) (at + k + 1)
   unfolding field
-  field-put {ys} w =
+  field-put after {ys} w =
       let q : at + k ≡ at + length (spelled k n) = rw (length-spelled k n) in
       record {
         written = rw (c .is) (written-then w (written-one ys (at + k) after (field-last w)) q);
@@ -66,18 +66,18 @@ lining-none bs at ns h = record { low = h .1; left = writing-none bs at (textLin
 
 module _ {bs₀ : List ℕ} {at : ℕ} {ns bs : List ℕ} {p k : ℕ} (l : Lining bs₀ at ns bs p k) where
   module _ (h : k + 1 < length ns) where
-    pub lining-room : p + length (field (getD ns k 0) 32) ≤ length bs
+    pub lining-room : p + (length (decimal (getD ns k 0)) + 1) ≤ length bs
     lining-room =
         let e : length (textLine (drop k ns)) ≡ length (field (getD ns k 0) 32) + length (textLine (drop (k + 1) ns)) =
         ap length (line-more ns k h) ∙ length-append (field (getD ns k 0) 32) (textLine (drop (k + 1) ns)) in
-        omega (arith, l .left .end, l .left .fits, l .left .kept)
+        omega (arith, l .left .end, l .left .fits, l .left .kept, length-field (getD ns k 0) 32)
 
     pub lining-more : {cs : List ℕ} {q : ℕ} → Put bs p (field (getD ns k 0) 32) cs q → Lining bs₀ at ns cs q (k + 1)
     lining-more w = record { low = h; left = rw (w .ends) (writing-then (rw (line-more ns k h) at (l .left)) (w .written)) }
 
   module _ (h : length ns ≤ k + 1) where
-    pub lining-room-last : p + length (field (getD ns k 0) 10) ≤ length bs
-    lining-room-last = omega (arith, ap length (line-last ns k (l .low) h), l .left .end, l .left .fits, l .left .kept)
+    pub lining-room-last : p + (length (decimal (getD ns k 0)) + 1) ≤ length bs
+    lining-room-last = omega (arith, length-field (getD ns k 0) 10, ap length (line-last ns k (l .low) h), l .left .end, l .left .fits, l .left .kept)
 
     pub lining-all : {cs : List ℕ} {q : ℕ} → Put bs p (field (getD ns k 0) 10) cs q → Put bs₀ at (textLine ns) cs q
     lining-all w =
@@ -88,18 +88,16 @@ pub ruleset lining = (needs, lining-none, lining-room, lining-more, lining-room-
 
 -- the line of a refusal: its word, its number, its place
 module _ (number place : ℕ) {xs ys : List ℕ} (n : Fits w32 number) (p : Fits w64 place) (e : length xs ≡ 50) (w : Written xs 0 (ascii "refused ") ys) where
-  field-few : (m after : ℕ) → Fits w64 m → length (field m after) ≤ 21
-  field-few m after f = omega (arith, length-field m after, decimal-few m f)
-
   number-fits : Fits w64 number
   number-fits = record { fits = omega (arith, n .fits) }
 
-  pub number-room : 8 + length (field number 32) ≤ length ys
-  number-room = omega (arith, field-few number 32 number-fits, length-written w)
+  pub number-room : 8 + (length (decimal number) + 1) ≤ length ys
+  number-room = omega (arith, decimal-few number number-fits, length-written w)
 
   module _ {zs : List ℕ} {at : ℕ} (f : Put ys 8 (field number 32) zs at) where
-    pub place-room : at + length (field place 10) ≤ length zs
-    place-room = omega (arith, field-few number 32 number-fits, field-few place 10 p, f .ends, length-written w, length-written (f .written))
+    pub place-room : at + (length (decimal place) + 1) ≤ length zs
+    place-room =
+        omega (arith, decimal-few number number-fits, decimal-few place p, length-field number 32, f .ends, length-written w, length-written (f .written))
 
     refusal-parts : ascii "refused " ++ (field number 32 ++ field place 10) ≡ refusedLine number place
     unfolding refusedLine textLine field

@@ -1,7 +1,7 @@
 -- The lines of a report's text: their numbers as they are read, their length, and how they are put. Assumes nothing.
-use mathlib.Core.List.{List, [], _∷_, _++_, map, append-assoc}
-use mathlib.Core.Path.{_≡_, refl, sym, ap, _∙_}
-use Prim.Native.Nat.{ℕ, zero, suc, _+_, _*_, _-_, _≤_, _<_}
+use mathlib.Core.List.{List, [], _∷_, _++_, append-assoc}
+use mathlib.Core.Path.{_≡_, sym, ap, _∙_}
+use Prim.Native.Nat.{ℕ, _+_, _*_, _-_, _≤_, _<_}
 use native.Mathlib.Nat.{add-zero}
 use native.Mathlib.Numerals.{add-one}
 use native.Mathlib.Omega.{arith}
@@ -22,6 +22,7 @@ use Rattle.reports.specs.Stated.{Readable}
 use Rattle.reports.proofs.Entries.{figures-drop}
 use Rattle.texts.specs.Digits.{Counted, field, Put}
 use Rattle.texts.specs.Rows.{Measured, headNumbers, entryNumbers}
+use Rattle.texts.proofs.Lines.{length-field}
 
 -- the bytes of fields, each with the byte behind it
 unfoldable pub spans : List ℕ → ℕ
@@ -85,12 +86,12 @@ module _ (a b : ℕ) (fs xs : List ℕ) (at : ℕ) (e : length fs ≡ figureCoun
       let l : length (field a 32 ++ (field b 32 ++ textLine fs)) ≡ length (field a 32) + (length (field b 32) + length (textLine fs)) = simp length-append in
       omega (arith, ap length (row-parts a b fs e))
 
-  pub row-first-room : at + length (field a 32) ≤ length xs
-  row-first-room = omega (arith, room-parts)
+  pub row-first-room : at + (length (decimal a) + 1) ≤ length xs
+  row-first-room = omega (arith, room-parts, length-field a 32)
 
   module _ {ys : List ℕ} {p : ℕ} (f : Put xs at (field a 32) ys p) where
-    pub row-second-room : p + length (field b 32) ≤ length ys
-    row-second-room = omega (arith, room-parts, f .ends, length-written (f .written))
+    pub row-second-room : p + (length (decimal b) + 1) ≤ length ys
+    row-second-room = omega (arith, room-parts, length-field b 32, f .ends, length-written (f .written))
 
     module _ {zs : List ℕ} {q : ℕ} (s : Put ys p (field b 32) zs q) where
       pub row-rest-room : q + length (textLine fs) ≤ length zs

@@ -1,8 +1,8 @@
 -- The whole text: its length, its lines one behind another, and the answer of the call. Assumes nothing.
 use mathlib.Core.Bool.{Bool, true, false}
-use mathlib.Core.List.{List, [], _∷_, _++_, map, append-nil}
-use mathlib.Core.Path.{_≡_, refl, sym, ap, _∙_}
-use Prim.Native.Nat.{ℕ, zero, suc, _+_, _*_, _-_, _≤_, _<_}
+use mathlib.Core.List.{List, [], _∷_, _++_, map}
+use mathlib.Core.Path.{_≡_, refl, ap, _∙_}
+use Prim.Native.Nat.{ℕ, suc, _+_, _*_, _-_, _≤_, _<_}
 use native.Mathlib.Nat.{sub-zero}
 use native.Mathlib.Omega.{arith}
 use mir.Syntax.{w64}
@@ -14,8 +14,7 @@ use Rattle.basis.specs.Answers.{firstRefusal, Gives}
 use Rattle.basis.specs.Bytes.{Written}
 use Rattle.basis.specs.Lists.{countUp, joined}
 use Rattle.basis.proofs.Bytes.{written-then, length-written}
-use Rattle.meaning.specs.Register.{mostSources}
-use Rattle.meaning.specs.Report.{figureCount, totals, entryCount, entryAt, entryIn, entriesOf, wellFormed}
+use Rattle.meaning.specs.Report.{figureCount, entryCount, entryAt, entryIn, entriesOf, wellFormed}
 use Rattle.meaning.specs.Text.{textLine, reportText}
 use Rattle.meaning.specs.Calls.{formTest, text}
 use Rattle.meaning.proofs.Calls.{refused-gives, short-gives, made-gives}

@@ -5,7 +5,7 @@ ghost use Prim.Native.Nat.{_+_, _*_, _^_, _≤_, _<_};
 ghost use lib.ListN.{length};
 ghost use Rattle.basis.specs.Answers.{Gives};
 ghost use Rattle.basis.specs.Bytes.{Written};
-ghost use Rattle.meaning.specs.Text.{textLine, refusedLine};
+ghost use Rattle.meaning.specs.Text.{decimal, textLine, refusedLine};
 ghost use Rattle.meaning.specs.Report.{figureCount, entryCount, entryAt, entryIn};
 ghost use Rattle.meaning.specs.Calls.{text as Calls·text};
 ghost use Rattle.reports.specs.Figures.{figuresAt};
@@ -79,7 +79,7 @@ fn put_digits(buf: &mut [u8], at: usize, n: u64, k: usize)
 
 // A number and the byte behind it, a space or a line feed. Answers where the next field begins.
 fn put_field(buf: &mut [u8], at: usize, n: u64, after: u8) -> usize
-    requires { ⌜ at + length (field n after) ≤ length (now buf) ⌝ }
+    requires { ⌜ at + (length (decimal n) + 1) ≤ length (now buf) ⌝ }
     ensures { λ r. ⌜ Put (now (buf .entry)) at (field n after) (now (buf .exit)) r ⌝ }
 {
     let k = digit_count(n);
