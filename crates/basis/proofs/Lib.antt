@@ -7,3 +7,4 @@ pub mod Tables
 pub mod Counting
 pub mod Rows
 pub mod Blocks
+pub mod Filling

@@ -1,6 +1,6 @@
 -- The laws of sums, of counting up and of order by a key. Assumes nothing.
 use mathlib.Core.Bool.{Bool, true, false, cond}
-use mathlib.Core.List.{List, [], _∷_, _++_, List·Permᴰ, List·Permᴰ·nil, List·Permᴰ·cons, List·Permᴰ·swap, List·Permᴰ·trans, Permᴰ·refl}
+use mathlib.Core.List.{List, [], _∷_, _++_, map, List·Permᴰ, List·Permᴰ·nil, List·Permᴰ·cons, List·Permᴰ·swap, List·Permᴰ·trans, Permᴰ·refl}
 use mathlib.Core.Path.{_≡_, refl, ap, _∙_}
 use Prim.Native.Nat.{ℕ, zero, suc, _+_, _<_, zero-le, suc-le-suc}
 use native.Mathlib.Nat.{add-assoc, zero-add, not-suc-le-zero, le-of-suc-le-suc}
@@ -110,3 +110,27 @@ module _ {A : Type 0} (key : A → ℕ) where
   unfolding sortedBy
   sortedBy-each P [] p = tt
   sortedBy-each P (x ∷ xs) p = insertBy-each P x (sortedBy key xs) (p .0) (sortedBy-each P xs (p .1))
+
+-- order by a key is order by another key of what a function makes of each, where the two keys tell any two apart alike
+module _ {A B : Type 0} (f : A → B) (key : A → ℕ) (other : B → ℕ) where
+  abbrev pub Alike : A → A → Type 0
+  Alike x y = leb (key x) (key y) ≡ leb (other (f x)) (other (f y))
+
+  abbrev pub AllAlike : List A → Type 0
+  AllAlike [] = Unit {0}
+  AllAlike (x ∷ xs) = Each (Alike x) xs × AllAlike xs
+
+  insert-map : (x : A) (ys : List A) → Each (Alike x) ys → map f (insertBy key x ys) ≡ insertBy other (f x) (map f ys)
+  unfolding insertBy
+  insert-map x [] h = refl
+  insert-map x (y ∷ ys) h = rw (← h .0) (by (leb (key x) (key y)) (insert-map x ys (h .1)))
+    where
+      by : (b : Bool) → map f (insertBy key x ys) ≡ insertBy other (f x) (map f ys)
+          → map f (cond b (x ∷ y ∷ ys) (y ∷ insertBy key x ys)) ≡ cond b (f x ∷ f y ∷ map f ys) (f y ∷ insertBy other (f x) (map f ys))
+      by true e = refl
+      by false e = ap (λ (l : List B). f y ∷ l) e
+
+  pub sort-map : (xs : List A) → AllAlike xs → map f (sortedBy key xs) ≡ sortedBy other (map f xs)
+  unfolding sortedBy
+  sort-map [] h = refl
+  sort-map (x ∷ xs) h = insert-map x (sortedBy key xs) (sortedBy-each key (Alike x) xs (h .0)) ∙ ap (insertBy other (f x)) (sort-map xs (h .1))

@@ -25,7 +25,7 @@ use Rattle.demands.specs.Table.{FitAll}
 use Rattle.demands.specs.Fields.{method, parameter, lineAt as line, linesOf}
 use Rattle.demands.proofs.Table.{bad-exactly}
 use Rattle.demands.proofs.Sums.{rows-found, below-then, above-then, then-below, then-above}
-use Rattle.basis.proofs.Blocks.{Blocks, blocks-length, blocks-find, blocks-at}
+use Rattle.meaning.proofs.Lines.{Following, allLines, length-lines, line-is, line-of}
 use Rattle.demands.proofs.Figures.{lines-before, names-before, Standing, placed-standing}
 use Rattle.demands.proofs.Exactly.{Decides, decide-first}
 use Rattle.demands.proofs.RegisterTests.{decide-at-first, noSource, length-sources, source-at}
@@ -34,79 +34,28 @@ module _ (b : List ℕ) (l : LaidRight b) where
   pub standing : (i : ℕ) → i < sourceCount b → Standing b i
   standing i m = placed-standing b i (l .placed i m)
 
-  pub next-line : (i : ℕ) → i < sourceCount b → lineStart b (i + 1) ≡ lineStart b i + lineCountIn (sourceEntry b i)
-  unfolding lineStart
-  next-line i m = rw (add-one i) (ap (λ (x : ℕ). x + lineCountIn (sourceEntry b i)) (standing i m .line))
-
-  readAs : ℕ → ℕ → Decoded
-  readAs i j = decoded (methodIn (sourceEntry b i)) (parameterIn (sourceEntry b i)) (lineAt b j)
-
-  line-blocks : Blocks (λ i. decodedLines (sourceAt b i)) (lineStart b) (λ i. lineCountIn (sourceEntry b i)) readAs 0 (sourceCount b)
-  unfolding decodedLines sourceAt readAs
-  line-blocks i p m =
-      let r = sourceEntry b i in
-      record {
-        is =
-            map-map (decoded (methodIn r) (parameterIn r)) (lineAt b) (countUp (firstLineIn r) (lineCountIn r))
-            ∙ ap (λ (x : ℕ). map (readAs i) (countUp x (lineCountIn r))) (standing i (omega arith) .line);
-        next = next-line i (omega arith);
-      }
-
   pub last-line : lineStart b (sourceCount b) ≡ lineCount b
   last-line = lines-before b (sourceCount b) ∙ l .lastLine
 
   pub last-name : nameStart b (sourceCount b) ≡ nameBytes b
   last-name = names-before b (sourceCount b) ∙ l .lastName
 
-  allLines : List Decoded
-  allLines = joined (map decodedLines (sourcesOf b))
-
-  lines-are : allLines ≡ joined (map (λ i. decodedLines (sourceAt b i)) (countUp 0 (sourceCount b)))
-  unfolding allLines sourcesOf
-  lines-are = ap joined (map-map decodedLines (sourceAt b) (countUp 0 (sourceCount b)))
-
-  length-lines : length allLines ≡ lineCount b
-  unfolding lineStart
-  length-lines =
-      ap length lines-are
-      ∙ sym (add-zero _)
-      ∙ blocks-length (λ i. decodedLines (sourceAt b i)) (lineStart b) (λ i. lineCountIn (sourceEntry b i)) readAs (sourceCount b) 0 line-blocks
-      ∙ ap (lineStart b) (zero-add (sourceCount b))
-      ∙ last-line
-
-  line-is : (i j : ℕ) → i < sourceCount b → firstLineIn (sourceEntry b i) ≤ j → j < firstLineIn (sourceEntry b i) + lineCountIn (sourceEntry b i)
-      → getD allLines j Bad ≡ readAs i j
-  unfolding lineStart
-  line-is i j m p q =
-      let e = standing i m .line in
-      ap (λ (xs : List Decoded). getD xs j Bad) lines-are
-      ∙ ap (λ (x : ℕ). getD (joined (map (λ i. decodedLines (sourceAt b i)) (countUp 0 (sourceCount b)))) x Bad) (sym (sub-zero j))
-      ∙ blocks-at (λ i. decodedLines (sourceAt b i)) (lineStart b) (λ i. lineCountIn (sourceEntry b i)) readAs Bad (sourceCount b) 0 i j line-blocks
-      (omega arith) (omega arith) (omega arith) (omega arith)
-
-  line-of : (j : ℕ) → j < lineCount b
-      → (i : ℕ) × (i < sourceCount b) × (firstLineIn (sourceEntry b i) ≤ j) × (j < firstLineIn (sourceEntry b i) + lineCountIn (sourceEntry b i))
-  unfolding lineStart
-  line-of j m =
-      let t : lineStart b (0 + sourceCount b) ≡ lineCount b = ap (lineStart b) (zero-add (sourceCount b)) ∙ last-line in
-      let r = blocks-find (λ i. decodedLines (sourceAt b i)) (lineStart b) (λ i. lineCountIn (sourceEntry b i)) readAs (sourceCount b) 0 j line-blocks (omega arith) (omega arith) in
-      let n : r .0 < sourceCount b = omega (arith, r .2) in
-      let e = standing (r .0) n .line in
-      (r .0, n, omega (arith, r .3), omega (arith, r .4))
+  pub following : Following b
+  following = record { each = λ i m. standing i m .line; last = last-line }
 
   bad-is : (d : Decoded) → isBad d ≡ true → d ≡ Bad
   bad-is (Good x) e = absurd (clash e refl)
   bad-is Bad e = refl
 
   pub line-decides : Decides (lineTest (sourcesOf b)) (atSmallest (lineCount b) (withNumber 5 (BadLine b)))
-  unfolding lineTest badLine allLines readAs
+  unfolding lineTest badLine
   line-decides =
-      rw length-lines
-      (decide-at-first 5 (badLine allLines) (lineCount b) (BadLine b)
+      rw (length-lines b following)
+      (decide-at-first 5 (badLine (allLines b)) (lineCount b) (BadLine b)
       (λ j m e.
-      let r = line-of j m in
-      (r .0, r .1, r .2, r .3, bad-exactly (method b (r .0)) (parameter b (r .0)) (line b j) .0 (sym (line-is (r .0) j (r .1) (r .2) (r .3)) ∙ bad-is (getD allLines j Bad) e)))
-      (λ j m r. ap isBad (line-is (r .0) j (r .1) (r .2) (r .3) ∙ bad-exactly (method b (r .0)) (parameter b (r .0)) (line b j) .1 (r .4))))
+      let r = line-of b following j m in
+      (r .0, r .1, r .2, r .3, bad-exactly (method b (r .0)) (parameter b (r .0)) (line b j) .0 (sym (line-is b following (r .0) j (r .1) (r .2) (r .3)) ∙ bad-is (getD (allLines b) j Bad) e)))
+      (λ j m r. ap isBad (line-is b following (r .0) j (r .1) (r .2) (r .3) ∙ bad-exactly (method b (r .0)) (parameter b (r .0)) (line b j) .1 (r .4))))
 
 -- 6 and 7: what a source is refused for, its lines being good
 abbrev picked : Bool → Bool → ℕ

@@ -16,7 +16,8 @@ use Rattle.demands.specs.Valid.{LaidRight, LineFits, SourceFits, Encodab
 use Rattle.basis.proofs.Rows.{numberAt-drop, numberAt-fits, unpacked, packed-unpacked, bytes-drop, bytes-take, write-rows}
 use Rattle.basis.proofs.Counting.{counted-append}
 use Rattle.demands.proofs.RegisterTests.{length-sources}
-use Rattle.demands.proofs.Calculation.{standing, next-line, last-line, last-name}
+use Rattle.demands.proofs.Calculation.{standing, last-line, last-name, following}
+use Rattle.meaning.proofs.Lines.{next-line}
 use Rattle.demands.proofs.EncodedEntries.{lineWidths, lineNumbers, rowsOf, linesOf, namesOf, entryWidths, entryNumbers}
 use Rattle.demands.proofs.Encoded.{registerWidths, registerNumbers}
 
@@ -94,7 +95,7 @@ module _ (b : List ℕ) (h : Bytes b) (v : LaidRight b) where
   entries-again zero j l = refl
   entries-again (suc k) j l =
       let m : j < sourceCount b = omega arith in
-      let line : lineStart b j + length (sourceAt b j .lines) ≡ lineStart b (j + 1) = rw (length-lines-at j) (sym (next-line b v j m)) in
+      let line : lineStart b j + length (sourceAt b j .lines) ≡ lineStart b (j + 1) = rw (length-lines-at j) (sym (next-line b (following b v) j m)) in
       let name : nameStart b j + length (sourceAt b j .name) ≡ nameStart b (j + 1) = rw (length-name-at j m) (sym (next-name j m)) in
       let q : sourcesAt + sourceLength * (j + 1) ≡ sourcesAt + sourceLength * j + sourceLength = omega arith in
       let w : sourceLength * suc k ≡ sourceLength + sourceLength * k = omega arith in
@@ -111,7 +112,7 @@ module _ (b : List ℕ) (h : Bytes b) (v : LaidRight b) where
       let count : ℕ → ℕ = λ i. lineCountIn (sourceEntry b i) in
       ap joined (map-map (λ s. s .lines) (sourceAt b) (countUp 0 (sourceCount b)))
       ∙ pieces-whole linePiece (λ x. refl) (counted-append (lineAt b)) (λ i. sourceAt b i .lines) (lineStart b) count (sourceCount b) (lineCount b) refl (last-line b v)
-      (λ i l. (ap (λ (x : ℕ). linePiece x (count i)) (standing b v i l .line), next-line b v i l))
+      (λ i l. (ap (λ (x : ℕ). linePiece x (count i)) (standing b v i l .line), next-line b (following b v) i l))
 
   namePiece : ℕ → ℕ → List ℕ
   namePiece x n = take n (drop (namesAt (sourceCount b) (lineCount b) + x) b)

@@ -73,7 +73,14 @@ fn with_line(sums: Sums, line: Line) -> Sums
 }
 
 // The lines of a source from first up to end, read and summed: decoding yields an enum, and a bad line ends it.
-fn read_lines(register: &[u8], method: u64, parameter: u64, base: usize, first: usize, end: usize) -> Read
+fn read_lines(
+    register: &[u8],
+    method: u64,
+    parameter: u64,
+    base: usize,
+    first: usize,
+    end: usize,
+) -> Read
     requires { ⌜ Lines (now register) method parameter base first end ⌝ }
     ensures { λ r. ⌜ Reads (now (register .entry)) method parameter first end r ⌝ }
 {

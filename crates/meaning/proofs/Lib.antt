@@ -4,3 +4,5 @@ pub mod Laws
 pub mod Sources
 pub mod Reports
 pub mod Calls
+pub mod Masses
+pub mod Lines
