@@ -1,14 +1,18 @@
 // Document 01, "Rounding and equivalence": what the lines of a source come to, and its masses and equivalent, or what it is refused for.
+ghost use mathlib.Core.List.{[], _∷_, _++_};
 ghost use mathlib.Core.Path.{_≡_};
 ghost use Prim.Native.Nat.{_+_, _≤_};
 ghost use lib.ListN.{length, drop};
+ghost use Rattle.meaning.specs.Masses.{gasCount};
 ghost use Rattle.meaning.specs.Register.{lineLength, lineOf};
 ghost use Rattle.meaning.specs.Methods.{mostQuantity};
 ghost use Rattle.methods.specs.Ranges.{KindFits};
 ghost use Rattle.masses.specs.Sums.{Roomy, Counts};
 ghost use Rattle.masses.specs.Lines.{Lines, Reads};
+ghost use Rattle.masses.specs.Judged.{AllRoomy, gramsOf, WeighedBy, JudgedBy};
 use exact::Amount;
 use exact::GASES;
+use exact::Weighed;
 use meaning::Decoded;
 use meaning::Line;
 use meaning::RawLine;
@@ -24,6 +28,15 @@ pub struct Read {
     pub at: usize,
     pub sums: Sums,
 }
+
+// What a source comes to: 6 or 7 where it is refused for its sums, and else 0 with its masses and its equivalent.
+pub struct Judged {
+    pub fault: u32,
+    pub figures: [u64; FIGURES],
+}
+
+// The figures of an entry: a mass for each gas, and the equivalent.
+pub const FIGURES: usize = GASES + 1;
 
 const LINE_LENGTH: usize = 20;
 
@@ -99,4 +112,69 @@ fn read_lines(
         at += 1;
     }
     Read { at, sums }
+}
+
+// What each gas comes to, in whole grams.
+fn grams(amounts: [Amount; GASES]) -> [u64; GASES]
+    requires { ⌜ AllRoomy amounts ⌝ }
+    ensures { λ r. ⌜ r ≡ gramsOf amounts ⌝ }
+{
+    let mut masses = [0u64; GASES];
+    let mut gas: usize = 0;
+    while gas < GASES {
+        let amount = amounts[gas];
+        masses[gas] = exact::round(amount);
+        gas += 1;
+    }
+    masses
+}
+
+// "CO2, CH4, N2O, CO2-equivalent": the masses, and the equivalent behind them.
+fn figures_of(masses: [u64; GASES], equivalent: u64) -> [u64; FIGURES]
+    requires { ⌜ length masses ≡ gasCount ⌝ }
+    ensures { λ r. ⌜ r ≡ masses ++ (equivalent ∷ []) ⌝ }
+{
+    let mut figures = [equivalent; FIGURES];
+    let mut gas: usize = 0;
+    while gas < GASES {
+        figures[gas] = masses[gas];
+        gas += 1;
+    }
+    figures
+}
+
+// 7 where the equivalent of the masses is above the limit.
+fn weigh(masses: [u64; GASES]) -> Judged
+    requires { ⌜ length masses ≡ gasCount ⌝ }
+    ensures { λ r. ⌜ WeighedBy masses r ⌝ }
+{
+    let weighed = exact::equivalent(masses);
+    let Weighed::Within(equivalent) = weighed else {
+        return Judged {
+            fault: 7,
+            figures: [0u64; FIGURES],
+        };
+    };
+    let figures = figures_of(masses, equivalent);
+    Judged { fault: 0, figures }
+}
+
+// "An exact CO2 sum below zero is refused; zero is accepted": 6 before 7.
+fn judge(sums: Sums) -> Judged
+    requires { ⌜ Roomy 0 sums ⌝ }
+    ensures { λ r. ⌜ JudgedBy sums r ⌝ }
+{
+    let mut added = sums.added;
+    let taken = sums.taken;
+    let co2 = added[0];
+    let below = exact::below(co2, taken);
+    if below {
+        return Judged {
+            fault: 6,
+            figures: [0u64; FIGURES],
+        };
+    }
+    added[0] = exact::subtract(co2, taken);
+    let masses = grams(added);
+    weigh(masses)
 }

@@ -1,0 +1,15 @@
+use borrow.Author.Needs.{needs}
+use Rattle.masses.proofs.Judging.{weighed-above, weighed-within}
+use Rattle.masses.proofs.weigh.Statement.{statement}
+use Rattle.masses.proofs.weigh.Tie as tie
+
+pub weigh-spec : {M : Type 1} → statement M
+weigh-spec =
+    tie.close
+    (tie.spec
+    (λ c. search needs)
+    (λ c. search needs)
+    (λ c. search needs)
+    (λ c. search (needs, weighed-above))
+    (λ c. search needs)
+    (λ c. search (needs, weighed-within)))
