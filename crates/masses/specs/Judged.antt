@@ -1,16 +1,20 @@
 -- The masses and the equivalent of sums, and what they are refused for. Assumes nothing.
-use mathlib.Core.Bool.{cond}
+use mathlib.Core.Bool.{true, false, cond}
 use mathlib.Core.List.{List, [], _∷_, _++_, map}
 use mathlib.Core.Path.{_≡_}
-use Prim.Native.Nat.{ℕ, zero, suc, _-_, _<_}
+use Prim.Native.Nat.{ℕ, zero, suc, _-_, _≤_, _<_}
 use lib.Dec.{ltb}
 use lib.ListN.{length, getD}
 use Rattle.basis.specs.Lists.{countUp}
-use Rattle.meaning.specs.Masses.{gasCount, rounded, equivalent, limit}
+use Rattle.meaning.specs.declared.Decoded.{Decoded}
+use Rattle.meaning.specs.Methods.{isBad}
+use Rattle.meaning.specs.Masses.{gasCount, belowZero, rounded, masses, equivalent, limit}
 use Rattle.exact.specs.declared.Amount.{Amount}
 use Rattle.exact.specs.Amounts.{gram, value, nothing, Room}
 use Rattle.masses.specs.declared.Sums.{Sums}
 use Rattle.masses.specs.declared.Judged.{Judged}
+use Rattle.masses.specs.declared.Source.{Source}
+use Rattle.masses.specs.Lines.{readAt, readFrom}
 
 -- an amount for each gas, each with room to be rounded
 pub record AllRoomy (amounts : List Amount) : Type 0 where
@@ -41,3 +45,17 @@ netMasses s = map (netGrams s) (countUp 0 gasCount)
 pub record JudgedBy (s : Sums) (r : Judged) : Type 0 where
   pub fault : r .fault ≡ cond (ltb (value (getD (s .added) 0 nothing)) (value (s .taken))) 6 (cond (ltb limit (equivalent (netMasses s))) 7 0)
   pub figures : r .fault ≡ 0 → r .figures ≡ netMasses s ++ (equivalent (netMasses s) ∷ [])
+
+-- what a source is refused for, by its lines: 6, 7, or 0
+unfoldable pub faultOf : List Decoded → ℕ
+faultOf ls = cond (belowZero ls) 6 (cond (ltb limit (equivalent (masses ls))) 7 0)
+
+-- a source's lines are good up to an index; where that is all of them, its fault and its figures are those of its lines
+pub record Comes (b : List ℕ) (m p first end : ℕ) (r : Source) : Type 0 where
+  pub low : first ≤ r .at
+  pub high : r .at ≤ end
+  pub good : (k : ℕ) → first ≤ k → k < r .at → isBad (readAt b m p k) ≡ false
+  pub bad : r .at < end → isBad (readAt b m p (r .at)) ≡ true
+  pub fault : r .at ≡ end → r .fault ≡ faultOf (readFrom b m p first (end - first))
+  pub figures : r .at ≡ end → r .fault ≡ 0
+      → let ms = masses (readFrom b m p first (end - first)) in r .figures ≡ ms ++ (equivalent ms ∷ [])

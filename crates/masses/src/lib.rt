@@ -9,7 +9,7 @@ ghost use Rattle.meaning.specs.Methods.{mostQuantity};
 ghost use Rattle.methods.specs.Ranges.{KindFits};
 ghost use Rattle.masses.specs.Sums.{Roomy, Counts};
 ghost use Rattle.masses.specs.Lines.{Lines, Reads};
-ghost use Rattle.masses.specs.Judged.{AllRoomy, gramsOf, WeighedBy, JudgedBy};
+ghost use Rattle.masses.specs.Judged.{AllRoomy, gramsOf, WeighedBy, JudgedBy, Comes};
 use exact::Amount;
 use exact::GASES;
 use exact::Weighed;
@@ -31,6 +31,13 @@ pub struct Read {
 
 // What a source comes to: 6 or 7 where it is refused for its sums, and else 0 with its masses and its equivalent.
 pub struct Judged {
+    pub fault: u32,
+    pub figures: [u64; FIGURES],
+}
+
+// A source with its lines: how far they are good, and where all are, what it comes to.
+pub struct Source {
+    pub at: usize,
     pub fault: u32,
     pub figures: [u64; FIGURES],
 }
@@ -177,4 +184,27 @@ fn judge(sums: Sums) -> Judged
     added[0] = exact::subtract(co2, taken);
     let masses = grams(added);
     weigh(masses)
+}
+
+// The lines of a source from first up to end, read, summed and judged.
+pub fn judge_source(register: &[u8], method: u64, parameter: u64, base: usize, first: usize, end: usize) -> Source
+    requires { ⌜ Lines (now register) method parameter base first end ⌝ }
+    ensures { λ r. ⌜ Comes (now (register .entry)) method parameter first end r ⌝ }
+{
+    let read = read_lines(register, method, parameter, base, first, end);
+    let at = read.at;
+    if at < end {
+        return Source {
+            at,
+            fault: 0,
+            figures: [0u64; FIGURES],
+        };
+    }
+    let judged = judge(read.sums);
+    let figures = judged.figures;
+    Source {
+        at,
+        fault: judged.fault,
+        figures,
+    }
 }
