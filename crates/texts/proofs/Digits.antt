@@ -2,19 +2,17 @@
 use mathlib.Core.List.{List, [], _∷_, _++_, append-assoc}
 use mathlib.Core.Path.{_≡_, refl, sym, ap, _∙_}
 use Prim.Native.Nat.{ℕ, zero, suc, _+_, _*_, _-_, _/_, _%_, _^_, _≤_, _<_}
-use native.Mathlib.Nat.{pow-suc}
+use native.Mathlib.Nat.{pow-suc, pow-le-pow-right}
 use native.Mathlib.Decide.{decLt}
 use native.Mathlib.Omega.{arith}
 use borrow.Author.Needs.{needs}
-use borrow.Author.Tests.{lt-ltb, le-ltb, eqb-true}
-use lib.Dec.{eqb}
-use lib.ListN.{length, getD, drop, set, length-append, length-set}
+use borrow.Author.Tests.{lt-ltb, le-ltb}
+use lib.ListN.{length, drop, set, length-append, length-set}
 use lib.Seq.{drop-cons, take-set-le, drop-set-lt, getD-set-same}
 use mir.Syntax.{w64}
 use mir.Val.{Fits}
 use Rattle.basis.specs.Bytes.{splice, Written}
 use Rattle.basis.proofs.Bytes.{splice-none}
-use Rattle.basis.proofs.Tables.{everywhere-at}
 use Rattle.meaning.specs.Text.{digit, digits, decimal}
 use Rattle.texts.specs.Digits.{spelled, Counted}
 
@@ -64,46 +62,49 @@ pub decimal-few : (n : ℕ) → Fits w64 n → length (decimal n) ≤ 20
 unfolding decimal
 decimal-few n f = digits-few 19 n n (omega (arith, f .fits))
 
--- so many powers of ten, from one on
-abbrev powersFrom : ℕ → ℕ → List ℕ
-powersFrom power zero = []
-powersFrom power (suc k) = power ∷ powersFrom (power * 10) k
-
-pub power-is : (k : ℕ) → k < 20 → getD (powersFrom 1 20) k 0 ≡ 10 ^ k
-power-is k l = eqb-true _ _ (everywhere-at (λ i power. eqb power (10 ^ i)) (powersFrom 1 20) 0 refl k l)
-
--- n has k digits or more
-pub record Counting (n k : ℕ) : Type 0 where
+-- n has k digits or more, and power is the least number that has k
+pub record Counting (n power k : ℕ) : Type 0 where
   pub some : 1 ≤ k
   pub few : k ≤ 20
-  pub above : 1 < k → 10 ^ (k - 1) ≤ n
+  pub positive : 0 < power
+  pub is : power ≡ 10 ^ (k - 1)
+  pub above : 1 < k → power ≤ n
 
-pub counting-one : (n : ℕ) → Counting n 1
-counting-one n = record { some = omega arith; few = omega arith; above = λ l. absurd (omega arith) }
+pub counting-one : (n : ℕ) → Counting n 1 1
+counting-one n = record { some = omega arith; few = omega arith; positive = omega arith; is = refl; above = λ l. absurd (omega arith) }
 
-module _ {n k : ℕ} (c : Counting n k) where
-  pub counting-more : {power : ℕ} → power ≡ 10 ^ k → power ≤ n → k < 20 → Counting n (k + 1)
-  counting-more e h l =
-      let q : k + 1 - 1 ≡ k = omega arith in
-      record { some = omega arith; few = omega arith; above = λ m. rw (q, ← e) h }
-
-  counted : n < 10 ^ k → Counted n k
-  unfolding decimal
-  counted h =
+module _ {n power k : ℕ} (c : Counting n power k) where
+  next-power : power * 10 ≡ 10 ^ k
+  next-power =
       let q : suc (k - 1) ≡ k = omega (arith, c .some) in
-      let l : n < 10 ^ suc (k - 1) = rw q h in
-      let e : decimal n ≡ spelled k n = rw q at (digits-spelled (k - 1) n n (omega arith) l (λ m. c .above (omega arith))) in
+      rw (c .is, ← pow-suc 10 (k - 1), q)
+
+  module _ (h : power ≤ n / 10) (f : Fits w64 n) where
+    pub counting-fits : Fits w64 (power * 10)
+    counting-fits = record { fits = omega (arith, f .fits) }
+
+    still-few : k ≤ 19
+    still-few = by (decLt k 20)
+      where
+        by : Dec (k < 20) → k ≤ 19
+        by (yes l) = omega arith
+        by (no l) = absurd (omega (arith, f .fits, next-power, pow-le-pow-right {n = 10} (omega arith) {i = 20} {j = k} (omega arith)))
+
+    pub counting-more : Counting n (power * 10) (k + 1)
+    counting-more =
+        let q : k + 1 - 1 ≡ k = omega arith in
+        record { some = omega arith; few = omega (arith, still-few); positive = omega (arith, c .positive); is = rw q next-power; above = λ l. omega arith }
+
+  pub counting-all : n / 10 < power → Counted n k
+  unfolding decimal
+  counting-all h =
+      let q : suc (k - 1) ≡ k = omega (arith, c .some) in
+      let l : n < 10 ^ suc (k - 1) = rw q (omega (arith, next-power)) in
+      let m : 0 < k - 1 → 10 ^ (k - 1) ≤ n = λ s. rw (← c .is) (c .above (omega arith)) in
+      let e : decimal n ≡ spelled k n = rw q at (digits-spelled (k - 1) n n (omega arith) l m) in
       record { is = e; count = sym (ap length e ∙ length-spelled k n); few = c .few }
 
-  pub counting-found : {power : ℕ} → power ≡ 10 ^ k → n < power → Counted n k
-  counting-found e h = counted (rw (← e) h)
-
-  pub counting-all : 20 ≤ k → Fits w64 n → Counted n k
-  counting-all h f =
-      let e : k ≡ 20 = omega (arith, c .few) in
-      counted (rw e (omega (arith, f .fits)))
-
-pub ruleset counting = (needs, counting-one, counting-more, counting-found, counting-all)
+pub ruleset counting = (needs, counting-one, counting-fits, counting-more, counting-all)
 
 -- a byte behind what is still to be written
 splice-last : (b : List ℕ) (at v : ℕ) (ys : List ℕ) → at + length ys < length b → splice (set b (at + length ys) v) at ys ≡ splice b at (ys ++ (v ∷ []))

@@ -1,7 +1,7 @@
 // Document 01, "The report program": the text of a report, and the line of a refusal.
 ghost use mathlib.Core.List.{_∷_};
 ghost use mathlib.Core.Path.{_≡_};
-ghost use Prim.Native.Nat.{_+_, _*_, _^_, _≤_, _<_};
+ghost use Prim.Native.Nat.{_+_, _*_, _≤_, _<_};
 ghost use lib.ListN.{length};
 ghost use Rattle.basis.specs.Answers.{Gives};
 ghost use Rattle.basis.specs.Bytes.{Written};
@@ -17,47 +17,15 @@ use reports::ENTRIES_AT;
 use reports::ENTRY_LENGTH;
 use reports::FIGURES;
 
-// The powers of ten that fit 64 bits.
-const POWERS: [u64; 20] = [
-    1,
-    10,
-    100,
-    1000,
-    10000,
-    100000,
-    1000000,
-    10000000,
-    100000000,
-    1000000000,
-    10000000000,
-    100000000000,
-    1000000000000,
-    10000000000000,
-    100000000000000,
-    1000000000000000,
-    10000000000000000,
-    100000000000000000,
-    1000000000000000000,
-    10000000000000000000,
-];
-
-fn power_of_ten(k: usize) -> u64
-    requires { ⌜ k < 20 ⌝ }
-    ensures { λ r. ⌜ r ≡ 10 ^ k ⌝ }
-{
-    POWERS[k]
-}
-
-// How many digits a number has, found by comparison and without a division.
+// How many digits a number has. A power of ten is compared with the number's tenth, so that the next power is at most the number.
 fn digit_count(n: u64) -> usize
     ensures { λ r. ⌜ Counted n r ⌝ }
 {
+    let tenth = n / 10;
+    let mut power: u64 = 1;
     let mut k: usize = 1;
-    while k < 20 {
-        let power = power_of_ten(k);
-        if n < power {
-            return k;
-        }
+    while power <= tenth {
+        power = power * 10;
         k += 1;
     }
     k

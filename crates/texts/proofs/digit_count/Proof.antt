@@ -1,13 +1,13 @@
-use Prim.Native.Nat.{_-_}
+use Prim.Native.Nat.{_+_, _-_}
 use Rattle.texts.proofs.Digits.{Counting, counting}
 use Rattle.texts.proofs.digit_count.Statement.{statement}
 use Rattle.texts.proofs.digit_count.Tie as tie
 
 abbrev Inv-loop : tie.InvT-loop
-Inv-loop n k₀ k = Counting n k
+Inv-loop n tenth power₀ k₀ power k = Counting n power k
 
 abbrev μ-loop : tie.MeasureT-loop
-μ-loop n k₀ k = 20 - k
+μ-loop n tenth power₀ k₀ power k = tenth + 1 - power
 
 pub digit-count-spec : {M : Type 1} → statement M
 digit-count-spec =
@@ -16,7 +16,6 @@ digit-count-spec =
     Inv-loop
     μ-loop
     (λ c. search counting)
-    (λ c κs. search counting)
     (λ c. search counting)
     (λ c. search counting)
     (λ c. search counting)
