@@ -2,7 +2,7 @@
 use mathlib.Core.Bool.{Bool, true, false, not, _&&_}
 use mathlib.Core.List.{List}
 use mathlib.Core.Path.{_≡_, sym, _∙_}
-use Prim.Native.Nat.{ℕ, _+_, _*_, _≤_, _<_}
+use Prim.Native.Nat.{ℕ, _≤_, _<_}
 use native.Mathlib.Omega.{arith}
 use borrow.Author.Tests.{ne-eqb}
 use lib.Dec.{eqb, leb}
@@ -17,17 +17,17 @@ use Rattle.fields.specs.Fields.{Field}
 use Rattle.reports.specs.Stated.{Readable, frontRight}
 
 module _ (b : List ℕ) where
-  pub front-judged : {n layout year : ℕ} {tagged : Bool} → (entriesAt ≤ length b) × (n ≡ entryCount b) × (n < 65536) → tagged ≡ startsWith reportTag b
+  pub front-judged : {n whole layout year : ℕ} {tagged : Bool} → (entriesAt ≤ length b) × (n ≡ entryCount b) × (whole ≡ reportLength n) → tagged ≡ startsWith reportTag b
       → Field 2 b 4 layout → Field 2 b 6 year
-      → eqb (length b) (56 + 40 * n) && tagged && eqb layout 1 && (leb 1990 year && leb year 2100) && leb n 512 ≡ frontRight b
+      → eqb (length b) whole && tagged && eqb layout 1 && (leb 1990 year && leb year 2100) && leb n 512 ≡ frontRight b
   unfolding frontRight
-  front-judged p t l y = rw (p .1, t, l .is, y .is)
+  front-judged p t l y = rw (p .2, p .1, t, l .is, y .is)
 
-  pub header-judged : {n zeros offset size after : ℕ} {front : Bool} → front ≡ frontRight b → Field 2 b 8 n → Field 2 b 10 zeros
+  pub header-judged : {n whole zeros offset size after : ℕ} {front : Bool} → front ≡ frontRight b → Field 2 b 8 n → whole ≡ reportLength n → Field 2 b 10 zeros
       → Field 4 b 12 offset → Field 4 b 16 size → Field 4 b 20 after
-      → front && eqb zeros 0 && eqb offset 56 && eqb size (56 + 40 * n) && eqb after 0 ≡ headerRight b
+      → front && eqb zeros 0 && eqb offset 56 && eqb size whole && eqb after 0 ≡ headerRight b
   unfolding frontRight headerRight
-  header-judged f n z o s a = rw (f, n .is, z .is, o .is, s .is, a .is)
+  header-judged f n w z o s a = rw (f, w, n .is, z .is, o .is, s .is, a .is)
 
   -- what is shorter than a header has none
   pub too-short : length b < entriesAt → false ≡ wellFormed b

@@ -64,6 +64,10 @@ module _ {bs₀ : List ℕ} {at : ℕ} {ns bs : List ℕ} {k : ℕ} (p : Placing
 
 pub ruleset placing = (needs, placing-none, placing-room, placing-more, placing-all)
 
+pub length-put : (n : ℕ) {whole : ℕ} {xs ys zs : List ℕ} → whole ≡ reportLength n → Written xs 16 (bytesOf 4 whole) ys → Written ys 20 (bytesOf 4 0) zs
+    → Written xs 16 (packed (4 ∷ 4 ∷ []) (reportLength n ∷ 0 ∷ [])) zs
+length-put n {whole} e p q = rw (← e) (packed-two 4 4 whole 0 p q)
+
 -- "Every report starts with the four bytes GREP"
 pub tag-written : (year : ℕ) {xs ys zs us : List ℕ} → Written xs 0 reportTag ys → Written ys 4 (bytesOf 2 reportLayout) zs → Written zs 6 (bytesOf 2 year) us
     → Written xs 0 (reportTag ++ packed (2 ∷ 2 ∷ []) (reportLayout ∷ year ∷ [])) us
@@ -73,7 +77,7 @@ pub front-written : (year n : ℕ) {xs ys zs us : List ℕ} → Written xs 0 (re
     → Written ys 8 (packed (2 ∷ 2 ∷ 4 ∷ []) (n ∷ 0 ∷ entriesAt ∷ [])) zs → Written zs 16 (packed (4 ∷ 4 ∷ []) (reportLength n ∷ 0 ∷ [])) us
     → Written xs 0 (statedFront year n) us
 unfolding packed bytesOf statedFront
-front-written year n p q r = same-bytes refl (written-then (written-then p q refl) r refl)
+front-written year n p q r = written-then (written-then p q refl) r refl
 
 -- an entry's front, and its figures behind it
 pub entry-written : (number method : ℕ) (ns : List ℕ) {at : ℕ} {xs ys zs : List ℕ} → Written xs at (packed (4 ∷ 1 ∷ 3 ∷ []) (number ∷ method ∷ 0 ∷ [])) ys

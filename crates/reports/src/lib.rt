@@ -23,6 +23,14 @@ pub const ENTRIES_AT: usize = 56;
 
 pub const ENTRY_LENGTH: usize = 40;
 
+// "whole length 56 + 40n"
+pub fn length_of(n: u64) -> u64
+    requires { ⌜ n < 65536 ⌝ }
+    ensures { λ r. ⌜ r ≡ reportLength n ⌝ }
+{
+    56 + 40 * n
+}
+
 // Figures of eight bytes each, as many as there is room for, from a place on.
 pub fn read_figures(s: &[u8], at: usize, to: &mut [u64])
     requires { ⌜ at + 8 * length (now to) ≤ length (now s) ⌝ }
@@ -122,15 +130,15 @@ fn are_entries_right(report: &[u8], n: usize) -> bool
     are_totals_right(report, &totals)
 }
 
-// The header up to the count, of a report that has n entries.
-fn is_front_right(report: &[u8], n: u64) -> bool
-    requires { ⌜ (entriesAt ≤ length (now report)) × (n ≡ entryCount (now report)) × (n < 65536) ⌝ }
+// The header up to the count, of a report that has n entries and so a whole length.
+fn is_front_right(report: &[u8], n: u64, whole: u64) -> bool
+    requires { ⌜ (entriesAt ≤ length (now report)) × (n ≡ entryCount (now report)) × (whole ≡ reportLength n) ⌝ }
     ensures { λ r. ⌜ r ≡ frontRight (now (report .entry)) ⌝ }
 {
     let tagged = fields::starts_with(report, b"GREP");
     let layout = fields::u16_at(report, 4);
     let year = fields::u16_at(report, 6);
-    (report.len() as u64 == 56 + 40 * n)
+    (report.len() as u64 == whole)
         & tagged
         & (layout == 1)
         & ((1990 <= year) & (year <= 2100))
@@ -143,12 +151,13 @@ fn is_header_right(report: &[u8]) -> bool
     ensures { λ r. ⌜ r ≡ headerRight (now (report .entry)) ⌝ }
 {
     let n = fields::u16_at(report, 8);
-    let front = is_front_right(report, n);
+    let whole = length_of(n);
+    let front = is_front_right(report, n, whole);
     let zeros = fields::u16_at(report, 10);
     let offset = fields::u32_at(report, 12);
     let size = fields::u32_at(report, 16);
     let zeros_after = fields::u32_at(report, 20);
-    front & (zeros == 0) & (offset == 56) & (size == 56 + 40 * n) & (zeros_after == 0)
+    front & (zeros == 0) & (offset == 56) & (size == whole) & (zeros_after == 0)
 }
 
 pub fn is_well_formed(report: &[u8]) -> bool
@@ -239,7 +248,7 @@ fn put_length(buf: &mut [u8], n: u64)
     requires { ⌜ (entriesAt ≤ length (now buf)) × (n ≤ mostSources) ⌝ }
     ensures { λ _. ⌜ Written (now (buf .entry)) 16 (packed (4 ∷ 4 ∷ []) (reportLength n ∷ 0 ∷ [])) (now (buf .exit)) ⌝ }
 {
-    fields::put_u32(buf, 16, 56 + 40 * n);
+    fields::put_u32(buf, 16, length_of(n));
     fields::put_zeros(buf, 20, 4);
 }
 

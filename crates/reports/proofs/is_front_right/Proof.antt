@@ -11,6 +11,4 @@ is-front-right-spec =
     (search needs)
     (search needs)
     (search needs)
-    (search needs)
-    (search needs)
     (λ c. search (needs, front-judged)))

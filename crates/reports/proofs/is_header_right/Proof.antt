@@ -14,5 +14,4 @@ is-header-right-spec =
     (search needs)
     (search needs)
     (search needs)
-    (search needs)
     (λ c. search (needs, header-judged)))

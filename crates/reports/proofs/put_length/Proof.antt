@@ -1,5 +1,5 @@
 use borrow.Author.Needs.{needs}
-use Rattle.reports.proofs.Writing.{packed-two}
+use Rattle.reports.proofs.Writing.{length-put}
 use Rattle.reports.proofs.put_length.Statement.{statement}
 use Rattle.reports.proofs.put_length.Tie as tie
 
@@ -11,5 +11,4 @@ put-length-spec =
     (search needs)
     (search needs)
     (search needs)
-    (search needs)
-    (λ c. search (needs, packed-two)))
+    (λ c. search (needs, length-put)))
