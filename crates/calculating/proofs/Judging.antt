@@ -98,6 +98,7 @@ module _ {b : List ℕ} {i n method parameter count first : ℕ} (h : Passed b) 
       let q : first + count ≡ firstLine + lines = omega (arith, s .from, s .lines) in
       let d : Comes b m p firstLine (firstLine + lines) r = rw (s .ofMethod, s .ofParameter, s .from, s .lines) at c in
       record {
+        size = d .size;
         low = d .low;
         high = d .high;
         before = d .good;

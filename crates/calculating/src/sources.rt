@@ -1,7 +1,12 @@
 // Tests 5 to 7 over the sources of a register that 1 to 4 have passed, and what each source comes to.
-ghost use Prim.Native.Nat.{_<_};
+ghost use mathlib.Core.Path.{_≡_};
+ghost use Prim.Native.Nat.{_+_, _*_, _≤_, _<_};
+ghost use lib.ListN.{length};
+ghost use Rattle.basis.specs.Bytes.{Written};
 ghost use Rattle.meaning.specs.Register.{sourceCount};
-ghost use Rattle.calculating.specs.Sources.{Passed, ComesAt};
+ghost use Rattle.meaning.specs.Report.{figureCount};
+ghost use Rattle.calculating.specs.Sources.{Passed, ComesAt, waited, Judged};
+use basis::Verdict;
 use masses::FIGURES;
 
 pub const SOURCES: usize = 32;
@@ -27,7 +32,14 @@ fn judge_entry(register: &[u8], i: usize) -> Judgement
     let count = fields::u16_at(register, at + 6) as usize;
     let first = fields::u16_at(register, at + 8) as usize;
     let end = first + count;
-    let source = masses::judge_source(register, method, parameter, SOURCES + SOURCE * n, first, end);
+    let source = masses::judge_source(
+        register,
+        method,
+        parameter,
+        SOURCES + SOURCE * n,
+        first,
+        end,
+    );
     let line = source.at;
     let figures = source.figures;
     Judgement {
@@ -36,4 +48,63 @@ fn judge_entry(register: &[u8], i: usize) -> Judgement
         fault: source.fault,
         figures,
     }
+}
+
+// Figures kept from a place on among those of the other sources.
+fn keep(kept: &mut [u64], at: usize, figures: &[u64])
+    requires { ⌜ at + length (now figures) ≤ length (now kept) ⌝ }
+    ensures { λ _. ⌜ Written (now (kept .entry)) at (now (figures .entry)) (now (kept .exit)) ⌝ }
+{
+    let mut k: usize = 0;
+    while k < figures.len() {
+        kept[at + k] = figures[k];
+        k += 1;
+    }
+}
+
+// The first 6 or 7 waits while the lines of the later sources are tested for 5.
+fn waits(waiting: Verdict, fault: u32, i: usize) -> Verdict
+    ensures { λ r. ⌜ r ≡ waited waiting fault i ⌝ }
+{
+    match waiting {
+        Verdict::Passes => {
+            if fault == 0 {
+                return Verdict::Passes;
+            }
+            Verdict::Refuses {
+                number: fault,
+                place: i as u64,
+            }
+        }
+        Verdict::Refuses {
+            number: _,
+            place: _,
+        } => waiting,
+    }
+}
+
+// "5 over all lines, then 6 and 7 source by source in table order", in one pass that keeps each source's figures.
+pub fn judge_sources(register: &[u8], kept: &mut [u64]) -> Verdict
+    requires { ⌜ Passed (now register) × (figureCount * sourceCount (now register) ≤ length (now kept)) ⌝ }
+    ensures { λ r. ⌜ Judged (now (register .entry)) r (now (kept .exit)) ⌝ }
+{
+    let n = fields::u16_at(register, 8) as usize;
+    let mut waiting = Verdict::Passes;
+    let mut i: usize = 0;
+    while i < n {
+        let source = judge_entry(register, i);
+        let good = source.good;
+        let line = source.line;
+        if !good {
+            return Verdict::Refuses {
+                number: 5,
+                place: line as u64,
+            };
+        }
+        let figures = source.figures;
+        keep(kept, FIGURES * i, &figures);
+        waiting = waits(waiting, source.fault, i);
+        i += 1;
+    }
+    waiting
 }

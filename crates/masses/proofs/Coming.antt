@@ -7,7 +7,8 @@ use native.Mathlib.Nat.{zero-mul, sub-zero}
 use native.Mathlib.Omega.{arith}
 use borrow.Author.Needs.{needs}
 use lib.Dec.{ltb}
-use lib.ListN.{getD}
+use lib.ListN.{length, getD}
+use Rattle.meaning.specs.Report.{figureCount}
 use Rattle.basis.specs.Lists.{countUp}
 use Rattle.meaning.specs.declared.Decoded.{Decoded}
 use Rattle.meaning.specs.Masses.{gasCount, added, taken, belowZero, rounded, mass, masses, equivalent, limit}
@@ -46,10 +47,11 @@ module _ (ls : List Decoded) (s : Sums) (h : Holds ls s) where
   figures-are j z = j .figures z ∙ rw net-masses
 
 -- a bad line, and all lines good
-pub comes-bad : {b : List ℕ} {m p first end fault : ℕ} {r : Read} {figures : List ℕ} → Reads b m p first end r → r .at < end
+pub comes-bad : {b : List ℕ} {m p first end fault : ℕ} {r : Read} {figures : List ℕ} → length figures ≡ figureCount → Reads b m p first end r → r .at < end
     → Comes b m p first end (record { at = r .at; fault = fault; figures = figures })
-comes-bad {r = r} h l =
+comes-bad {r = r} n h l =
     record {
+      size = n;
       low = h .summed .low;
       high = h .summed .high;
       good = h .summed .good;
@@ -64,6 +66,7 @@ comes-all {b} {m} {p} {first} {end} {r} {j} h l w =
     let e : r .at ≡ end = omega (arith, h .summed .high) in
     let held : Holds (readFrom b m p first (end - first)) (r .sums) = subst (λ (n : ℕ). Holds (readFrom b m p first (n - first)) (r .sums)) e (h .summed .held) in
     record {
+      size = w .size;
       low = h .summed .low;
       high = h .summed .high;
       good = h .summed .good;

@@ -9,13 +9,14 @@ use native.Mathlib.Omega.{arith}
 use borrow.Author.Needs.{needs}
 use borrow.Author.Tests.{leb-true, leb-false, le-ltb, lt-ltb}
 use lib.Dec.{ltb, leb}
-use lib.ListN.{length, getD, set, take, drop, replicate, length-map, length-set, take-append-drop}
+use lib.ListN.{length, getD, set, take, drop, replicate, length-map, length-set, length-append, take-append-drop}
 use lib.Seq.{take-at, length-take-le, getD-set-same, getD-set-other}
 use Rattle.basis.specs.Lists.{countUp}
 use Rattle.basis.proofs.Lists.{length-countUp}
 use Rattle.basis.proofs.Counting.{counted-append, counted-list}
 use Rattle.basis.proofs.Filling.{Filled, filled-none, filled-more, filled-all}
 use Rattle.meaning.specs.Masses.{gasCount, rounded, equivalent, limit}
+use Rattle.meaning.specs.Report.{figureCount}
 use Rattle.exact.specs.declared.Amount.{Amount}
 use Rattle.exact.specs.declared.Weighed.{Weighed}
 use Rattle.exact.specs.declared.Weighed.the-variants.{Within, Above}
@@ -99,22 +100,22 @@ apart e = let z : _≡_ {A = ℕ} 0 1 = cc in absurd (omega arith)
 same-within : {n m : ℕ} → Within n ≡ Within m → n ≡ m
 same-within e = cc
 
-pub weighed-above : {ms : List ℕ} {w : Weighed} {figures : List ℕ} → w ≡ withinLimit ms → w ≡ Above → WeighedBy ms (record { fault = 7; figures = figures })
-weighed-above {ms} {w} e a =
-    ⊎-elim (λ h. record { fault = rw (h .1); figures = λ z. absurd (omega arith) }) (λ h. apart (sym a ∙ h .0)) (limit-either ms w e)
+pub weighed-above : {ms : List ℕ} {w : Weighed} {figures : List ℕ} → length figures ≡ figureCount → w ≡ withinLimit ms → w ≡ Above → WeighedBy ms (record { fault = 7; figures = figures })
+weighed-above {ms} {w} n e a =
+    ⊎-elim (λ h. record { size = n; fault = rw (h .1); figures = λ z. absurd (omega arith) }) (λ h. apart (sym a ∙ h .0)) (limit-either ms w e)
 
-pub weighed-within : {ms : List ℕ} {w : Weighed} {n : ℕ} {figures : List ℕ} → w ≡ withinLimit ms → w ≡ Within n → figures ≡ ms ++ (n ∷ []) → WeighedBy ms (record { fault = 0; figures = figures })
-weighed-within {ms} {w} {n} e a f =
+pub weighed-within : {ms : List ℕ} {w : Weighed} {n : ℕ} {figures : List ℕ} → length ms ≡ gasCount → w ≡ withinLimit ms → w ≡ Within n → figures ≡ ms ++ (n ∷ []) → WeighedBy ms (record { fault = 0; figures = figures })
+weighed-within {ms} {w} {n} m e a f =
     ⊎-elim (λ h. apart (sym (h .0) ∙ a))
-    (λ h. record { fault = rw (h .1); figures = λ z. f ∙ ap (λ (x : ℕ). ms ++ (x ∷ [])) (same-within (sym a ∙ h .0)) })
+    (λ h. record { size = ap length f ∙ length-append ms (n ∷ []) ∙ ap (λ (k : ℕ). k + 1) m; fault = rw (h .1); figures = λ z. f ∙ ap (λ (x : ℕ). ms ++ (x ∷ [])) (same-within (sym a ∙ h .0)) })
     (limit-either ms w e)
 
 -- CO2 with what is taken from it
 abbrev pub co2 : Sums → Amount
 co2 s = getD (s .added) 0 nothing
 
-pub judged-below : {s : Sums} {figures : List ℕ} → ltb (value (co2 s)) (value (s .taken)) ≡ true → JudgedBy s (record { fault = 6; figures = figures })
-judged-below h = record { fault = rw h; figures = λ z. absurd (omega arith) }
+pub judged-below : {s : Sums} {figures : List ℕ} → length figures ≡ figureCount → ltb (value (co2 s)) (value (s .taken)) ≡ true → JudgedBy s (record { fault = 6; figures = figures })
+judged-below n h = record { size = n; fault = rw h; figures = λ z. absurd (omega arith) }
 
 module _ {s : Sums} {net : Amount} (room : Roomy 0 s) (left : Subtracted (co2 s) (s .taken) net) where
   length-net : length (set (s .added) 0 net) ≡ gasCount
@@ -140,4 +141,4 @@ module _ {s : Sums} {net : Amount} (room : Roomy 0 s) (left : Subtracted (co2 s)
   pub judged-weighed : {masses : List ℕ} {r : Judged} → ltb (value (co2 s)) (value (s .taken)) ≡ false → masses ≡ gramsOf (set (s .added) 0 net) → WeighedBy masses r → JudgedBy s r
   judged-weighed {masses} {r} h e w =
       let v : WeighedBy (netMasses s) r = subst (λ (ms : List ℕ). WeighedBy ms r) (e ∙ net-is) w in
-      record { fault = rw h (v .fault); figures = v .figures }
+      record { size = v .size; fault = rw h (v .fault); figures = v .figures }

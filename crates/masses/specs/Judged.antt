@@ -9,6 +9,7 @@ use Rattle.basis.specs.Lists.{countUp}
 use Rattle.meaning.specs.declared.Decoded.{Decoded}
 use Rattle.meaning.specs.Methods.{isBad}
 use Rattle.meaning.specs.Masses.{gasCount, belowZero, rounded, masses, equivalent, limit}
+use Rattle.meaning.specs.Report.{figureCount}
 use Rattle.exact.specs.declared.Amount.{Amount}
 use Rattle.exact.specs.Amounts.{gram, value, nothing, Room}
 use Rattle.masses.specs.declared.Sums.{Sums}
@@ -30,6 +31,7 @@ gramsOf amounts = map (gramsAt amounts) (countUp 0 gasCount)
 
 -- what masses come to: 7, or 0 with their figures
 pub record WeighedBy (masses : List ℕ) (r : Judged) : Type 0 where
+  pub size : length (r .figures) ≡ figureCount
   pub fault : r .fault ≡ cond (ltb limit (equivalent masses)) 7 0
   pub figures : r .fault ≡ 0 → r .figures ≡ masses ++ (equivalent masses ∷ [])
 
@@ -43,6 +45,7 @@ netMasses s = map (netGrams s) (countUp 0 gasCount)
 
 -- what sums come to: 6, 7, or 0 with their figures
 pub record JudgedBy (s : Sums) (r : Judged) : Type 0 where
+  pub size : length (r .figures) ≡ figureCount
   pub fault : r .fault ≡ cond (ltb (value (getD (s .added) 0 nothing)) (value (s .taken))) 6 (cond (ltb limit (equivalent (netMasses s))) 7 0)
   pub figures : r .fault ≡ 0 → r .figures ≡ netMasses s ++ (equivalent (netMasses s) ∷ [])
 
@@ -52,6 +55,7 @@ faultOf ls = cond (belowZero ls) 6 (cond (ltb limit (equivalent (masses ls))) 7 
 
 -- a source's lines are good up to an index; where that is all of them, its fault and its figures are those of its lines
 pub record Comes (b : List ℕ) (m p first end : ℕ) (r : Source) : Type 0 where
+  pub size : length (r .figures) ≡ figureCount
   pub low : first ≤ r .at
   pub high : r .at ≤ end
   pub good : (k : ℕ) → first ≤ k → k < r .at → isBad (readAt b m p k) ≡ false

@@ -187,7 +187,14 @@ fn judge(sums: Sums) -> Judged
 }
 
 // The lines of a source from first up to end, read, summed and judged.
-pub fn judge_source(register: &[u8], method: u64, parameter: u64, base: usize, first: usize, end: usize) -> Source
+pub fn judge_source(
+    register: &[u8],
+    method: u64,
+    parameter: u64,
+    base: usize,
+    first: usize,
+    end: usize,
+) -> Source
     requires { ⌜ Lines (now register) method parameter base first end ⌝ }
     ensures { λ r. ⌜ Comes (now (register .entry)) method parameter first end r ⌝ }
 {

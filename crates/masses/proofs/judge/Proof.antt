@@ -10,7 +10,7 @@ judge-spec =
     (tie.spec
     (λ c. search needs)
     (λ c κs. let p = c .before .before .before .pre in (p .added 0 (omega arith) .part-fits, p .taken .part-fits))
-    (λ c. judged-below (cc))
+    (λ c. judged-below (omega arith) (cc))
     (λ c κs. let p = c .before .before .before .before .before .pre in (p .added 0 (omega arith) .part-fits, p .taken .part-fits, cc))
     (λ c. search needs)
     (λ c κs. net-roomy (c .before .before .before .before .before .before .pre) (c .subtract .ensures))
