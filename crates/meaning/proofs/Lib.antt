@@ -6,3 +6,4 @@ pub mod Reports
 pub mod Calls
 pub mod Masses
 pub mod Lines
+pub mod Lengths
