@@ -1,23 +1,24 @@
 -- A report's bytes hold its fields where document 01 has them, and no other bytes do. Assumes nothing.
 use mathlib.Core.List.{List, [], _∷_, map}
 use mathlib.Core.Path.{_≡_, refl, sym, ap, ap₂, _∙_}
-use Prim.Native.Nat.{ℕ, zero, suc, _+_, _*_, _<_}
+use Prim.Native.Nat.{ℕ, zero, suc, _+_, _<_}
 use native.Mathlib.Nat.{zero-add}
 use native.Mathlib.Omega.{arith}
 use lib.ListN.{length, getD, List·getD-append}
 use lib.Seq.{getD-append-seam}
-use Rattle.basis.specs.Bytes.{numberAt, Bytes}
+use Rattle.basis.specs.Bytes.{numberAt}
 use Rattle.basis.specs.Lists.{Each, sum, countUp}
 use Rattle.basis.proofs.Lists.{each-at}
 use Rattle.basis.proofs.Counting.{counted-list}
 use Rattle.basis.proofs.Rows.{taken-starts}
 use Rattle.meaning.specs.Masses.{equivalent}
-use Rattle.meaning.specs.Report.{Entry, figures, figure, figureCount, totals, reportTag, reportHeader, reportBytes, reportYear, entryCount, totalAt, entryAt, entryIn, entriesOf, numberBefore}
+use Rattle.meaning.specs.Report.{Entry, figures, figure, figureCount, totals, reportTag, reportHeader, reportBytes, entryCount, totalAt, entryAt, entryIn, entriesOf, numberBefore}
+use Rattle.meaning.proofs.Reports.{Headed, RightEntry, Formed, total-is}
 use Rattle.demands.specs.Table.{CO2, CH4, N2O}
 use Rattle.demands.specs.Valid.{massOf, equivalentOf, Entered, Reportable, HoldsEntry, noEntry, Holds, IsReport}
 use Rattle.demands.proofs.Figures.{equivalent-is}
-use Rattle.demands.proofs.Reports.{equivalent-within, prior, ascending-at, total-is, header-at, total-at, year-back, count-back, row-is, entry-is, zeros-at, equivalent-at, length-report, report-bytes}
-use Rattle.demands.proofs.WellFormed.{Headed, RightEntry, Formed, report-again}
+use Rattle.demands.proofs.Reports.{equivalent-within, prior, ascending-at, header-at, total-at, year-back, count-back, row-is, entry-is, zeros-at, equivalent-at, length-report, report-bytes}
+use Rattle.demands.proofs.WellFormed.{report-again}
 
 -- the figures of an entry of three masses
 pub figure-mass : (k : ℕ) → k < 3 → (e : Entry) → Entered e → figure k e ≡ massOf k e

@@ -11,7 +11,7 @@ use borrow.Author.Tests.{eq-eqb, ne-eqb}
 use Rattle.basis.proofs.Lists.{each-at}
 use Rattle.basis.specs.Lists.{Each, any, without}
 use Rattle.meaning.specs.Report.{Entry, inOrder, reportBytes, reportLength, reportYear, entryCount, entriesOf, wellFormed}
-use Rattle.meaning.specs.Calls.{roomTest, numbered, combined, removed, removalTests}
+use Rattle.meaning.specs.Calls.{roomTest, numbered, removed, removalTests}
 use Rattle.demands.specs.Valid.{Entered, Distinct, entryNumber, Reportable}
 use Rattle.demands.specs.Trees.{wrote, Accepted}
 use Rattle.demands.specs.Demand3.{GoodReport, CombinesTo, Neutral, Again}
@@ -19,7 +19,8 @@ use Rattle.basis.proofs.Counting.{some-any}
 use Rattle.basis.proofs.Answers.{passes-each, if-passed}
 use Rattle.demands.proofs.Order.{ascending-each, ascending-distinct, ascending-sorted, distinct-perm, sorted-perm}
 use Rattle.demands.proofs.Reports.{year-back, count-back, entries-back, report-right, length-report}
-use Rattle.demands.proofs.WellFormed.{formed, reportable, report-again}
+use Rattle.meaning.proofs.Reports.{formed}
+use Rattle.demands.proofs.WellFormed.{reportable, report-again}
 use Rattle.demands.proofs.ReportCalls.{without-make, without-absent, without-one}
 use Rattle.demands.proofs.Combined.{accepted-written, enough-room, apart, combined-writes}
 

@@ -12,7 +12,7 @@ use Rattle.basis.specs.declared.Verdict.{Verdict}
 use Rattle.basis.specs.declared.Verdict.the-variants.{Passes}
 use Rattle.basis.specs.Bytes.{Bytes}
 use Rattle.basis.specs.Lists.{Each, any, without}
-use Rattle.basis.specs.Answers.{firstRefusal, answer}
+use Rattle.basis.specs.Answers.{firstRefusal}
 use Rattle.basis.proofs.Bools.{clash, not-both}
 use Rattle.basis.proofs.Answers.{each-passes}
 use Rattle.meaning.specs.Register.{mostSources}
@@ -27,7 +27,8 @@ use Rattle.demands.specs.Refusals.{NoReport, combinationRows, removalRow
 use Rattle.demands.proofs.Order.{ascending-distinct}
 use Rattle.demands.proofs.Exactly.{Decides, DecideAll, passes-nowhere, exactly, exactly-written, zero-passes, answers, answers-verdict, Numbered, room-decides}
 use Rattle.demands.proofs.Reports.{length-report}
-use Rattle.demands.proofs.ReportTests.{form-decides, passed-form, year-decides, made-of, counted, has, absent-decides, shared-decides, passed-shared, entries-apart, both-make, count-decides, nowhere-at}
+use Rattle.meaning.proofs.Reports.{count-is}
+use Rattle.demands.proofs.ReportTests.{form-decides, passed-form, year-decides, made-of, has, absent-decides, shared-decides, passed-shared, entries-apart, both-make, count-decides, nowhere-at}
 
 module _ (one other : List ℕ) (h : Bytes one) (g : Bytes other) where
   pub both-reportable : formTest one 1 ≡ Passes → formTest other 2 ≡ Passes → sharedTest one other ≡ Passes → countTest one other ≡ Passes
@@ -37,7 +38,7 @@ module _ (one other : List ℕ) (h : Bytes one) (g : Bytes other) where
       let w = passed-form one 1 p in
       let v = passed-form other 2 q in
       let few = nowhere-at (passes-nowhere (countTest one other) _ (count-decides one other) c) in
-      let n : length (entriesOf one) + length (entriesOf other) ≡ entryCount one + entryCount other = rw (counted one h w, counted other g v) in
+      let n : length (entriesOf one) + length (entriesOf other) ≡ entryCount one + entryCount other = rw (count-is one, count-is other) in
       let m : length (entriesOf one) + length (entriesOf other) ≤ mostSources = omega arith in (
         both-make (entriesOf one) (entriesOf other) (made-of one h w) (made-of other g v) (entries-apart one other h g w v (passed-shared one other h g w v s)) m,
         length-inOrder (entriesOf one ++ entriesOf other) ∙ length-append (entriesOf one) (entriesOf other) ∙ n,
@@ -185,7 +186,7 @@ module _ (report : List ℕ) (number : ℕ) (h : Bytes report) where
       (λ e. nowhere-at (passes-nowhere (absentTest report number) _ (absent-decides report number h w) a) (λ r. clash (has report h w number r) (not-true _ e)))) in
       let one = without-one number (entriesOf report) (ascending-distinct entryNumber 0 (entriesOf report) (v .order)) present in
       length-report (reportYear report) (without (numbered number) (entriesOf report)) (without-make number (entriesOf report) v)
-      ∙ ap reportLength (omega (arith, one, counted report h w))
+      ∙ ap reportLength (omega (arith, one, count-is report))
 
   removal-decides : (result : List ℕ) → DecideAll (removalTests report number ++ (roomTest (removedReport report number) result ∷ [])) (removalRows report number (length result))
   removal-decides result = (

@@ -27,7 +27,8 @@ use Rattle.demands.proofs.Order.{ascending-each, ascending-distinct, as
 use Rattle.demands.proofs.Exactly.{Decides, decide-if}
 use Rattle.demands.proofs.Reports.{report-right}
 use Rattle.demands.proofs.Holds.{is-report, written-again}
-use Rattle.demands.proofs.WellFormed.{formed, reportable, report-again, count-is, entry-at}
+use Rattle.meaning.proofs.Reports.{formed, count-is}
+use Rattle.demands.proofs.WellFormed.{reportable, report-again, entry-at}
 
 -- a well-formed report is the report of its year and its entries
 pub formed-report : (b : List ℕ) → Bytes b → wellFormed b ≡ true → IsReport b (reportYear b) (entriesOf b)
@@ -55,28 +56,25 @@ year-decides one other =
     decide-if (not (eqb (reportYear one) (reportYear other))) 10 0 (reportYear one ≢ reportYear other)
     (λ e. eqb-false _ _ (not-true _ e)) (λ e f. f (eqb-true _ _ (not-false _ e)))
 
--- the numbers of a well-formed report: by index, and ascending
+-- the numbers of a report: by index, and, where it is well-formed, ascending
+number-at : (b : List ℕ) (i : ℕ) → i < entryCount b → getD (entriesOf b) i noEntry .number ≡ numberAt 4 (entryAt b i) 0
+unfolding entryIn
+number-at b i l = ap (λ (e : Entry). e .number) (entry-at b i l)
+
 module _ (b : List ℕ) (h : Bytes b) (w : wellFormed b ≡ true) where
   pub made-of : Reportable (reportYear b) (entriesOf b)
   made-of = reportable b h (formed b w)
 
-  pub counted : length (entriesOf b) ≡ entryCount b
-  counted = count-is b h (formed b w)
-
-  number-at : (i : ℕ) → i < entryCount b → getD (entriesOf b) i noEntry .number ≡ numberAt 4 (entryAt b i) 0
-  unfolding entryIn
-  number-at i l = ap (λ (e : Entry). e .number) (entry-at b h (formed b w) i l)
-
   pub has : (x : ℕ) → HasNumber b x → any (numbered x) (entriesOf b) ≡ true
   has x r =
-      let l : r .0 < length (entriesOf b) = rw counted (r .1) in
-      some-any (numbered x) noEntry (entriesOf b) (r .0) l (eq-eqb _ x (number-at (r .0) (r .1) ∙ r .2))
+      let l : r .0 < length (entriesOf b) = rw (count-is b) (r .1) in
+      some-any (numbered x) noEntry (entriesOf b) (r .0) l (eq-eqb _ x (number-at b (r .0) (r .1) ∙ r .2))
 
   pub has-it : (x : ℕ) → any (numbered x) (entriesOf b) ≡ true → HasNumber b x
   has-it x e =
       let r = any-some (numbered x) noEntry (entriesOf b) e in
-      let l : r .0 < entryCount b = rw counted at (r .1) in
-      (r .0, l, sym (number-at (r .0) l) ∙ eqb-true _ x (r .2))
+      let l : r .0 < entryCount b = rw (count-is b) at (r .1) in
+      (r .0, l, sym (number-at b (r .0) l) ∙ eqb-true _ x (r .2))
 
 -- 13
 pub absent-decides : (b : List ℕ) (x : ℕ) → Bytes b → wellFormed b ≡ true → Decides (absentTest b x) (at 13 x (HasNumber b x → ⊥))
@@ -100,12 +98,12 @@ module _ (one other : List ℕ) (h : Bytes one) (g : Bytes other) (w : wellForme
   unfolding shared-test sharedAt numbers stands
   shared-at i l =
       any-map (λ m. eqb m (getD (numbers one) i 0)) entryNumber (entriesOf other)
-      ∙ ap (λ (x : ℕ). any (numbered x) (entriesOf other)) (List·getD-map entryNumber (entriesOf one) i noEntry ∙ number-at one h w i l)
+      ∙ ap (λ (x : ℕ). any (numbered x) (entriesOf other)) (List·getD-map entryNumber (entriesOf one) i noEntry ∙ number-at one i l)
 
   number-lt : (i k : ℕ) → i < k → k < entryCount one → numberAt 4 (entryAt one i) 0 < numberAt 4 (entryAt one k) 0
   number-lt i k l m =
-      let q : k < length (entriesOf one) = rw (counted one h w) m in
-      rw (number-at one h w i (omega arith), number-at one h w k m) at (ascending-lt entryNumber 0 (entriesOf one) noEntry (made-of one h w .order) i k l q)
+      let q : k < length (entriesOf one) = rw (count-is one) m in
+      rw (number-at one i (omega arith), number-at one k m) at (ascending-lt entryNumber 0 (entriesOf one) noEntry (made-of one h w .order) i k l q)
 
   index-lt : (k i : ℕ) → k < entryCount one → i < entryCount one → numberAt 4 (entryAt one k) 0 < numberAt 4 (entryAt one i) 0 → k < i
   index-lt k i m l e = by (decLt k i) (decLt i k)
@@ -117,7 +115,7 @@ module _ (one other : List ℕ) (h : Bytes one) (g : Bytes other) (w : wellForme
 
   long : length (numbers one) ≡ entryCount one
   unfolding numbers
-  long = length-map (entriesOf one) entryNumber ∙ counted one h w
+  long = length-map (entriesOf one) entryNumber ∙ count-is one
 
   -- an index of the one at which the test holds has a number that stands in both
   both-at : (i : ℕ) → i < entryCount one → shared-test i ≡ true → InBoth one other (numberAt 4 (entryAt one i) 0)
@@ -128,7 +126,7 @@ module _ (one other : List ℕ) (h : Bytes one) (g : Bytes other) (w : wellForme
 
   place-at : (i : ℕ) → i < entryCount one → getD (numbers one) i 0 ≡ numberAt 4 (entryAt one i) 0
   unfolding numbers
-  place-at i l = List·getD-map entryNumber (entriesOf one) i noEntry ∙ number-at one h w i l
+  place-at i l = List·getD-map entryNumber (entriesOf one) i noEntry ∙ number-at one i l
 
   pub shared-decides : Decides (sharedTest one other) (λ n p. (n ≡ 11) × InBoth one other p × ((x : ℕ) → x < p → InBoth one other x → ⊥))
   unfolding sharedTest shared-test numbers
@@ -168,9 +166,9 @@ module _ (one other : List ℕ) (h : Bytes one) (g : Bytes other) (w : wellForme
       at-each (λ x. Each (λ z. entryNumber x ≢ entryNumber z) (entriesOf other)) (entriesOf one) noEntry
       (λ i l. at-each (λ z. entryNumber (getD (entriesOf one) i noEntry) ≢ entryNumber z) (entriesOf other) noEntry
       (λ j m e.
-      let p : i < entryCount one = rw (counted one h w) at l in
-      let q : j < entryCount other = rw (counted other g v) at m in
-      a (numberAt 4 (entryAt one i) 0) ((i, p, refl), (j, q, sym (number-at other g v j q) ∙ sym e ∙ number-at one h w i p))))
+      let p : i < entryCount one = rw (count-is one) at l in
+      let q : j < entryCount other = rw (count-is other) at m in
+      a (numberAt 4 (entryAt one i) 0) ((i, p, refl), (j, q, sym (number-at other j q) ∙ sym e ∙ number-at one i p))))
 
 -- entries of two lists that make reports, apart and not too many, make a report
 pub both-make : {y z : ℕ} (xs zs : List Entry) → Reportable y xs → Reportable z zs → Each (λ x. Each (λ z. entryNumber x ≢ entryNumber z) zs) xs

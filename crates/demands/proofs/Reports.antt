@@ -3,53 +3,31 @@ use mathlib.Core.Bool.{true, false}
 use mathlib.Core.List.{List, [], _∷_, _++_, map, append-assoc, append-nil}
 use mathlib.Core.Path.{_≡_, refl, sym, ap, _∙_}
 use Prim.Native.Nat.{ℕ, zero, suc, _+_, _*_, _^_, _≤_, _<_, zero-le, suc-le-suc}
-use native.Mathlib.Nat.{zero-add, not-suc-le-zero, le-of-suc-le-suc, le-trans, mul-le-mul-right}
+use native.Mathlib.Nat.{zero-add, not-suc-le-zero, le-of-suc-le-suc, le-trans}
 use native.Mathlib.Omega.{arith}
 use lib.Dec.{eqb, ltb, leb}
-use lib.ListN.{length, getD, take, drop, replicate, length-append, length-map, length-replicate, getD-replicate, List·getD-append}
+use lib.ListN.{length, getD, take, drop, replicate, length-append, length-replicate, getD-replicate, List·getD-append}
 use lib.Seq.{drop-at, drop-drop, getD-append-seam}
 use borrow.Author.Tests.{le-ltb, le-leb, lt-leb, eq-eqb}
 use Rattle.basis.specs.Bytes.{numberAt, packed, Bytes, startsWith}
-use Rattle.basis.specs.Lists.{Each, sum, countUp, joined}
+use Rattle.basis.specs.Lists.{Each, sum, joined}
 use Rattle.basis.proofs.Bytes.{Fits, length-packed, numberAt-packed, packed-bytes, append-bytes}
-use Rattle.basis.proofs.Lists.{length-countUp, each-at}
-use Rattle.meaning.specs.Methods.{within}
-use Rattle.meaning.specs.Masses.{gasCount, gases, warming, weighed, equivalent, limit}
+use Rattle.basis.proofs.Lists.{each-at}
+use Rattle.meaning.specs.Masses.{gasCount, gases, equivalent, limit}
 use Rattle.meaning.specs.Register.{mostSources}
 use Rattle.meaning.specs.Report.{Entry, figures, figureCount, figure, totals, reportTag, reportLayout, entriesAt, entryLength, reportLength, reportHeader, entryBytes, reportBytes, reportYear, entryCount, totalAt, entryAt, figureIn, entryIn, entriesOf, headerRight, numberBefore, wrongEntry, wrongTotal, wellFormed}
+use Rattle.meaning.proofs.Reports.{length-figures, figure-bounded, length-totals, total-is}
 use Rattle.demands.specs.Valid.{Entered, Ascending, entryNumber, noEntry, Reportable}
 use Rattle.demands.proofs.Figures.{equivalent-is}
-use Rattle.basis.proofs.Counting.{none-counted, getD-counted, counted-list, sum-widths, sum-bounded}
+use Rattle.basis.proofs.Counting.{none-counted, counted-list, sum-widths, sum-bounded}
 use Rattle.basis.proofs.Rows.{tag-starts, numberAt-behind, read-rows, row-at, length-rows, each-bytes, joined-bytes}
 
--- Figures and totals. An entry's figures are as many as the gases and one, and none is above the limit.
-pub length-figures : (e : Entry) → Entered e → length (figures e) ≡ figureCount
-unfolding figures
-length-figures e v = rw (length-append, v .gases)
-
--- a mass is at most the equivalent, since no warming value is below 1
-mass-weighed : (ws ms : List ℕ) (k : ℕ) → Each (λ w. 1 ≤ w) ws → length ms ≤ length ws → getD ms k 0 ≤ weighed ws ms
-unfolding weighed
-mass-weighed ws [] k p l = zero-le
-mass-weighed [] (m ∷ ms) k p l = absurd (not-suc-le-zero l)
-mass-weighed (w ∷ ws) (m ∷ ms) zero p l = omega (arith, mul-le-mul-right m (p .0))
-mass-weighed (w ∷ ws) (m ∷ ms) (suc k) p l = omega (arith, mass-weighed ws ms k (p .1) (le-of-suc-le-suc l))
-
-last-bounded : (ms : List ℕ) (q b k : ℕ) → ((i : ℕ) → getD ms i 0 ≤ b) → q ≤ b → getD (ms ++ (q ∷ [])) k 0 ≤ b
-last-bounded [] q b zero h l = l
-last-bounded [] q b (suc k) h l = zero-le
-last-bounded (m ∷ ms) q b zero h l = h 0
-last-bounded (m ∷ ms) q b (suc k) h l = last-bounded ms q b k (λ i. h (suc i)) l
-
+-- Figures and totals. No figure of an entry is above the limit.
 pub equivalent-within : (e : Entry) → Entered e → equivalent (e .masses) ≤ limit
 equivalent-within e v = rw (equivalent-is e (v .gases)) (v .within)
 
-pub figure-bounded : (k : ℕ) (e : Entry) → Entered e → figure k e ≤ limit
-unfolding figure figures equivalent
-figure-bounded k e v =
-    last-bounded (e .masses) (equivalent (e .masses)) limit k
-    (λ i. le-trans (mass-weighed warming (e .masses) i (omega arith) (omega (arith, v .gases))) (equivalent-within e v))
-    (equivalent-within e v)
+figure-within : (k : ℕ) (e : Entry) → Entered e → figure k e ≤ limit
+figure-within k e v = le-trans (figure-bounded k e (omega (arith, v .gases))) (equivalent-within e v)
 
 abbrev eights : ℕ → List ℕ
 eights n = replicate n 8
@@ -63,19 +41,11 @@ fits-eights (suc n) (m ∷ ns) e h = (h 0 (suc-le-suc zero-le), fits-eights n ns
 
 pub figures-fit : (e : Entry) → Entered e → Fits (eights figureCount) (figures e)
 unfolding figure
-figures-fit e v = fits-eights figureCount (figures e) (length-figures e v) (λ i l. omega (arith, figure-bounded i e v))
-
-pub length-totals : (es : List Entry) → length (totals es) ≡ figureCount
-unfolding totals
-length-totals es = length-map (countUp 0 figureCount) (λ k. sum (map (figure k) es)) ∙ length-countUp 0 figureCount
-
-pub total-is : (es : List Entry) (k : ℕ) → k < figureCount → getD (totals es) k 0 ≡ sum (map (figure k) es)
-unfolding totals
-total-is es k l = getD-counted (λ k. sum (map (figure k) es)) 0 figureCount 0 k l ∙ ap (λ (i : ℕ). sum (map (figure i) es)) (zero-add k)
+figures-fit e v = fits-eights figureCount (figures e) (length-figures e (v .gases)) (λ i l. omega (arith, figure-within i e v))
 
 -- "512 such sources fit 64 bits"
 pub total-fits : (es : List Entry) → Each Entered es → length es ≤ mostSources → (k : ℕ) → k < figureCount → getD (totals es) k 0 < 2 ^ 64
-total-fits es v n k l = rw (total-is es k l) (omega (arith, sum-bounded (figure k) Entered limit (figure-bounded k) es v))
+total-fits es v n k l = rw (total-is es k l) (omega (arith, sum-bounded (figure k) Entered limit (figure-within k) es v))
 
 totals-fit : (es : List Entry) → Each Entered es → length es ≤ mostSources → Fits (eights figureCount) (totals es)
 totals-fit es v n = fits-eights figureCount (totals es) (length-totals es) (λ i l. total-fits es v n i l)

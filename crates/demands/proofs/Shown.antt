@@ -23,7 +23,8 @@ use Rattle.demands.specs.Shown.{Shown, acid, many, zeros, lent, whole}
 use Rattle.demands.specs.Algebra.{refusal}
 use Rattle.demands.proofs.TooMany.{too-many, length-many, many-make, many-apart}
 use Rattle.demands.proofs.Registers.{passed}
-use Rattle.demands.proofs.WellFormed.{formed, reportable}
+use Rattle.meaning.proofs.Reports.{formed}
+use Rattle.demands.proofs.WellFormed.{reportable}
 use Rattle.demands.proofs.Laid.{laid-encodable}
 use Rattle.demands.proofs.Names.{not-refused}
 
