@@ -12,7 +12,7 @@ use Rattle.basis.specs.declared.Verdict.{Verdict}
 use Rattle.basis.specs.declared.Verdict.the-variants.{Passes}
 use Rattle.basis.specs.Bytes.{Bytes}
 use Rattle.basis.specs.Lists.{Each, any, joined}
-use Rattle.basis.specs.Answers.{firstRefusal, answer}
+use Rattle.basis.specs.Answers.{firstRefusal}
 use Rattle.basis.proofs.Answers.{passed-at-first, passed-at-all, passed-then, if-passed, each-passes, passed-append, passes-each}
 use Rattle.basis.proofs.Lists.{length-countUp, length-sortedBy, each-at, at-each, each-map, sortedBy-each}
 use Rattle.basis.proofs.Bools.{clash, and-true, not-both, or-either}

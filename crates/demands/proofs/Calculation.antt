@@ -1,22 +1,20 @@
 -- Calculation refuses exactly when the table says. Assumes nothing.
 use mathlib.Core.Bool.{Bool, true, false, cond, not}
-use mathlib.Core.List.{List, map, map-map}
-use mathlib.Core.Logic.{_⊎_, inl, inr, _≢_}
+use mathlib.Core.List.{List, map}
+use mathlib.Core.Logic.{inl, inr, _≢_}
 use mathlib.Core.Path.{_≡_, refl, sym, ap, _∙_}
-use Prim.Native.Nat.{ℕ, _+_, _≤_, _<_}
-use native.Mathlib.Nat.{add-zero, zero-add, sub-zero}
-use native.Mathlib.Numerals.{add-one}
+use Prim.Native.Nat.{ℕ, _<_}
 use native.Mathlib.Omega.{arith}
 use lib.Dec.{eqb, ltb}
 use lib.ListN.{length, getD, length-map, List·getD-map}
-use borrow.Author.Tests.{ltb-true, ltb-false, eqb-true, eqb-false, lt-ltb, ne-eqb, not-true, not-false}
-use Rattle.basis.specs.Lists.{sum, countUp, joined, any}
-use Rattle.basis.proofs.Bools.{clash, or-false, not-both}
+use borrow.Author.Tests.{eqb-false, ne-eqb, not-true}
+use Rattle.basis.specs.Lists.{sum, countUp, any}
+use Rattle.basis.proofs.Bools.{clash, not-both}
 use Rattle.meaning.specs.declared.Decoded.{Decoded}
 use Rattle.meaning.specs.declared.Decoded.the-variants.{Good, Bad}
 use Rattle.meaning.specs.Methods.{decoded, isBad}
 use Rattle.meaning.specs.Masses.{added, taken, belowZero, rounded, mass, masses, weighed, equivalent, limit}
-use Rattle.meaning.specs.Register.{Source, sourceCount, lineCount, nameBytes, lineAt, sourceEntry, methodIn, parameterIn, firstLineIn, lineCountIn, nameLengthIn, nameOffsetIn, sourceAt, sourcesOf, lineStart, nameStart, misplaced, decodedLines}
+use Rattle.meaning.specs.Register.{sourceCount, lineCount, nameBytes, sourceAt, sourcesOf, lineStart, nameStart, decodedLines}
 use Rattle.meaning.specs.Calls.{badLine, lineTest, massFault, faultAt, massTest}
 use Rattle.demands.specs.Valid.{LaidRight}
 use Rattle.demands.specs.Exactly.{at, atSmallest, withNumber}

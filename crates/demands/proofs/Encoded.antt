@@ -1,5 +1,5 @@
 -- A register that is encoded is laid right, and is read back as the year and the sources that it is encoded of. Assumes nothing.
-use mathlib.Core.Bool.{false, not}
+use mathlib.Core.Bool.{false}
 use mathlib.Core.List.{List, [], _∷_, _++_, map, append-nil}
 use mathlib.Core.Path.{_≡_, refl, sym, ap, ap₂, _∙_}
 use Prim.Native.Nat.{ℕ, suc, _+_, _*_, _≤_, _<_}
@@ -8,7 +8,6 @@ use native.Mathlib.Numerals.{add-one}
 use native.Mathlib.Omega.{arith}
 use lib.ListN.{length, getD, take, drop, length-append}
 use lib.Seq.{take-at}
-use borrow.Author.Tests.{eq-eqb, le-ltb}
 use Rattle.basis.specs.Bytes.{numberAt, packed, Bytes}
 use Rattle.basis.specs.Lists.{sum, countUp, any, joined}
 use Rattle.basis.proofs.Bytes.{Fits, length-packed, packed-bytes, append-bytes}

@@ -12,13 +12,12 @@ use lib.Seq.{getD-take}
 use borrow.Author.Tests.{ltb-true, leb-false, eqb-true, eqb-false, lt-ltb, lt-leb, eq-eqb, not-true, not-false}
 use Rattle.basis.specs.Bytes.{numberAt, ascii, startsWith}
 use Rattle.basis.specs.Lists.{countUp, stands}
-use Rattle.basis.specs.First.{first}
 use Rattle.basis.specs.Answers.{refuseIf, refuseAtFirst, firstRefusal}
 use Rattle.basis.specs.declared.Verdict.the-variants.{Passes}
 use Rattle.basis.proofs.Answers.{each-passes, passed-if}
 use Rattle.basis.proofs.Lists.{length-countUp}
-use Rattle.basis.proofs.Bools.{clash, and-true, or-false, either-or, or-either}
-use Rattle.meaning.specs.Register.{Source, registerTag, registerLayout, yearOf, isYear, sourceCount, mostSources, lineCount, mostLines, nameBytes, mostNameBytes, sourcesAt, linesAt, namesAt, wholeLength, headerTests, sourceEntry, numberIn, sourceAt, sourcesOf, lineStart, nameStart, misplaced, unsound, wrongSource, sourceTest, restTest, repeats, repeatTest, registerTests}
+use Rattle.basis.proofs.Bools.{clash, and-true, or-false, or-either}
+use Rattle.meaning.specs.Register.{Source, registerTag, registerLayout, yearOf, isYear, sourceCount, mostSources, lineCount, mostLines, nameBytes, mostNameBytes, sourcesAt, linesAt, namesAt, wholeLength, headerTests, sourceEntry, numberIn, sourceAt, sourcesOf, wrongSource, sourceTest, restTest, repeats, repeatTest, registerTests}
 use Rattle.demands.specs.Exactly.{at, atSmallest, withNumber}
 use Rattle.demands.specs.Refusals.{headerRows, WrongSource, Repeated, registerRows}
 use Rattle.basis.proofs.Counting.{any-some, some-any, getD-counted}

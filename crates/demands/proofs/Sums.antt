@@ -1,23 +1,22 @@
 -- A source's sums are those of the rows of the table that fit its lines, and its masses the nearest grams of them. Assumes nothing.
-use mathlib.Core.Bool.{Bool, true, false, not, _||_}
+use mathlib.Core.Bool.{true, false}
 use mathlib.Core.List.{List, [], _∷_, map}
 use mathlib.Core.Logic.{_↔_, _≢_}
 use mathlib.Core.Path.{_≡_, refl, sym, ap, ap₂, _∙_}
-use Prim.Native.Nat.{ℕ, zero, suc, _+_, _*_, _-_, _^_, _≤_, _<_}
+use Prim.Native.Nat.{ℕ, _+_, _*_, _-_, _^_, _≤_, _<_}
 use native.Mathlib.Nat.{sub-zero, div-lt-iff-lt-mul, le-div-iff-mul-le, div-eq-of-lt-le}
 use native.Mathlib.Omega.{arith}
 use lib.Dec.{eqb, ltb}
-use lib.ListN.{length, getD, length-map}
 use borrow.Author.Tests.{ltb-true, lt-ltb, ne-eqb}
-use Rattle.basis.specs.Lists.{Each, sum, countUp, any}
+use Rattle.basis.specs.Lists.{sum, countUp, any}
 use Rattle.basis.proofs.Bools.{clash, or-false}
-use Rattle.basis.proofs.Lists.{_&_, each-at, length-countUp}
+use Rattle.basis.proofs.Lists.{_&_, each-at}
 use Rattle.meaning.specs.declared.RawLine.{RawLine}
 use Rattle.meaning.specs.declared.Decoded.{Decoded}
 use Rattle.meaning.specs.declared.Decoded.the-variants.{Good, Bad}
 use Rattle.meaning.specs.Methods.{decoded, isBad}
 use Rattle.meaning.specs.Masses.{added, taken, belowZero, rounded, mass, masses, equivalent, limit}
-use Rattle.demands.specs.Table.{Sign, adds, takes, MethodRow, CO2, CH4, N2O, table, rowAt, FitsAt, same, amount, FitAll, total, Nearest}
+use Rattle.demands.specs.Table.{adds, takes, CO2, CH4, N2O, table, rowAt, FitsAt, amount, FitAll, total, Nearest}
 use Rattle.demands.specs.Refusals.{BelowZero, AboveLimit}
 use Rattle.demands.proofs.Figures.{weighed-three}
 use Rattle.demands.proofs.Table.{row-found}

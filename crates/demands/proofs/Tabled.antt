@@ -13,9 +13,8 @@ use borrow.Author.Tests.{eqb-false, eq-eqb, not-true}
 use Rattle.basis.proofs.Bools.{clash, and-true, either-or, or-either}
 use Rattle.basis.proofs.Lists.{each-at}
 use Rattle.meaning.specs.declared.RawLine.{RawLine}
-use Rattle.meaning.specs.declared.Decoded.{Decoded}
 use Rattle.meaning.specs.Methods.{decoded}
-use Rattle.meaning.specs.Masses.{Contribution, contributionOf, addsTo, takesFrom}
+use Rattle.meaning.specs.Masses.{contributionOf}
 use Rattle.demands.specs.Table.{Among, Sign, adds, takes, MethodRow, Fits, table, rowAt, FitsAt, factorFor, productOf, same, amount, Tabled}
 use Rattle.demands.proofs.Readings.{said, Reading, each-reads}
 use Rattle.demands.proofs.Table.{bad-exactly}

@@ -11,7 +11,7 @@ use Rattle.meaning.specs.Text.{decimal, textLine, reportText}
 use Rattle.meaning.specs.Calls.{formTest, text}
 use Rattle.demands.specs.Table.{CO2, CH4, N2O}
 use Rattle.demands.specs.Valid.{massOf, equivalentOf, Entered}
-use Rattle.demands.specs.Text.{Decimal, Line, Lines, printed, Texts}
+use Rattle.demands.specs.Text.{Line, Lines, printed, Texts}
 use Rattle.demands.proofs.Figures.{equivalent-is}
 use Rattle.demands.proofs.Decimals.{decimal-written, decimal-only}
 use Rattle.demands.proofs.Holds.{figure-mass, figure-last, sum-same, three-masses}

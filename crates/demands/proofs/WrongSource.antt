@@ -3,13 +3,13 @@ use mathlib.Core.Bool.{Bool, true, false, not, _&&_, _||_}
 use mathlib.Core.List.{List, [], _∷_, map}
 use mathlib.Core.Logic.{_⊎_, inl, inr, ⊎-elim, _≢_}
 use mathlib.Core.Path.{_≡_, refl, sym, ap, _∙_}
-use Prim.Native.Nat.{ℕ, zero, suc, _+_, _*_, _≤_, _<_}
+use Prim.Native.Nat.{ℕ, _+_, _*_, _≤_, _<_}
 use native.Mathlib.Decide.{decLt}
 use native.Mathlib.Omega.{arith}
 use lib.Dec.{eqb, ltb, leb}
 use lib.ListN.{length, getD, take, drop, length-drop, length-map}
 use lib.Seq.{length-take-le, getD-take, getD-drop}
-use borrow.Author.Tests.{ltb-true, eqb-true, eqb-false, leb-false, lt-ltb, lt-leb, eq-eqb, ne-eqb, not-true, not-false}
+use borrow.Author.Tests.{ltb-true, eqb-true, eqb-false, leb-false, lt-ltb, lt-leb, eq-eqb, ne-eqb, not-true}
 use Rattle.basis.specs.Lists.{countUp, any}
 use Rattle.basis.proofs.Bools.{clash, and-true, true-and, not-both, either-or, or-either, or-true}
 use Rattle.basis.proofs.Lists.{length-countUp}
