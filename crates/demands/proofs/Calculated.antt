@@ -23,6 +23,7 @@ use Rattle.meaning.specs.Register.{Source, yearOf, sourceCount, mostSources, so
 use Rattle.meaning.specs.Report.{entryOf, inOrder, reportBytes, reportLength}
 use Rattle.meaning.specs.Calls.{roomTest, badLine, lineTest, massFault, faultAt, massTest, entriesFor, calculated, calculationTests, calculatedReport}
 use Rattle.meaning.proofs.Laws.{one-entry-each}
+use Rattle.meaning.proofs.Sources.{noSource, sourceNumber, length-sources, source-at}
 use Rattle.demands.specs.Valid.{Entered, Distinct, entryNumber, Reportable}
 use Rattle.demands.specs.Demand1.{Answers}
 use Rattle.demands.specs.Table.{Among}
@@ -34,7 +35,7 @@ use Rattle.demands.proofs.Order.{sorted-ascending}
 use Rattle.basis.proofs.Rows.{numberAt-fits, bytes-drop}
 use Rattle.demands.proofs.Exactly.{decide-append, DecideAll, Numbered, exactly-written, zero-passes, answers, room-decides}
 use Rattle.demands.proofs.Reports.{length-report}
-use Rattle.demands.proofs.RegisterTests.{noSource, sourceNumber, length-sources, source-at, register-decides}
+use Rattle.demands.proofs.RegisterTests.{register-decides}
 use Rattle.demands.proofs.Registers.{sound-parts, Passed, passed, passing}
 use Rattle.demands.proofs.Calculation.{no-fault, line-decides, mass-decides}
 

@@ -16,6 +16,7 @@ use Rattle.meaning.specs.Methods.{decoded, isBad}
 use Rattle.meaning.specs.Masses.{added, taken, belowZero, rounded, mass, masses, weighed, equivalent, limit}
 use Rattle.meaning.specs.Register.{sourceCount, lineCount, nameBytes, sourceAt, sourcesOf, lineStart, nameStart, decodedLines}
 use Rattle.meaning.specs.Calls.{badLine, lineTest, massFault, faultAt, massTest}
+use Rattle.meaning.proofs.Sources.{Placed as Standing, noSource, length-sources, source-at}
 use Rattle.demands.specs.Valid.{LaidRight}
 use Rattle.demands.specs.Exactly.{at, atSmallest, withNumber}
 use Rattle.demands.specs.Refusals.{BadLine, MassFault}
@@ -24,9 +25,9 @@ use Rattle.demands.specs.Fields.{method, parameter, lineAt as line, line
 use Rattle.demands.proofs.Table.{bad-exactly}
 use Rattle.demands.proofs.Sums.{rows-found, below-then, above-then, then-below, then-above}
 use Rattle.meaning.proofs.Lines.{Following, allLines, length-lines, line-is, line-of}
-use Rattle.demands.proofs.Figures.{lines-before, names-before, Standing, placed-standing}
+use Rattle.demands.proofs.Figures.{lines-before, names-before, placed-standing}
 use Rattle.demands.proofs.Exactly.{Decides, decide-first}
-use Rattle.demands.proofs.RegisterTests.{decide-at-first, noSource, length-sources, source-at}
+use Rattle.demands.proofs.RegisterTests.{decide-at-first}
 
 module _ (b : List ℕ) (l : LaidRight b) where
   pub standing : (i : ℕ) → i < sourceCount b → Standing b i

@@ -19,6 +19,7 @@ use Rattle.meaning.proofs.Laws.{length-inOrder}
 use Rattle.meaning.specs.Register.{Source, mostSources}
 use Rattle.meaning.specs.Report.{Entry, entryOf, inOrder, reportBytes, reportLength, reportYear, entryCount, wellFormed}
 use Rattle.meaning.specs.Calls.{written, roomTest, sharedTest, bothEntries, entriesFor, numbered, combined, combinationTests}
+use Rattle.meaning.proofs.Sources.{sourceNumber}
 use Rattle.demands.specs.Valid.{Distinct, entryNumber, noEntry, Reportable}
 use Rattle.demands.specs.Exactly.{Row, Nowhere}
 use Rattle.demands.specs.Refusals.{InBoth}
@@ -28,7 +29,6 @@ use Rattle.basis.proofs.Answers.{passes-each, if-passed}
 use Rattle.demands.proofs.Exactly.{Decides}
 use Rattle.demands.proofs.Reports.{year-back, count-back, entries-back, report-right, report-bytes, length-report}
 use Rattle.demands.proofs.ReportTests.{has, shared-decides, both-make}
-use Rattle.demands.proofs.RegisterTests.{sourceNumber}
 use Rattle.demands.proofs.Calculated.{Calculable, entries-distinct, sources-make}
 use Rattle.demands.proofs.Order.{distinct-perm, sorted-perm}
 use Rattle.demands.proofs.Trees.{Makes, makes-split, makes-perm, Reporting, dealt}

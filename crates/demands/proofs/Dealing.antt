@@ -13,10 +13,10 @@ use Rattle.basis.specs.Answers.{Outcome}
 use Rattle.meaning.specs.Register.{Source, yearOf, sourcesOf}
 use Rattle.meaning.specs.Report.{reportBytes}
 use Rattle.meaning.specs.Calls.{entriesFor, calculated, combined, calculationTests, calculatedReport}
+use Rattle.meaning.proofs.Sources.{noSource, sourceNumber, length-sources, source-at}
 use Rattle.demands.specs.Valid.{Distinct, LaidRight}
 use Rattle.demands.specs.Trees.{Tree, report, combine, leaves, wrote, Accepted, result, EachAccepted}
 use Rattle.demands.specs.Demand3.{Lent, Dealt, calculation, Dealing}
-use Rattle.demands.proofs.RegisterTests.{noSource, sourceNumber, length-sources, source-at}
 use Rattle.demands.proofs.Registers.{Passed}
 use Rattle.demands.proofs.Calculated.{Calculable, accepted, accepting}
 use Rattle.demands.proofs.Combined.{accepted-written, Sources, sources-split, sources-perm, sources-dealt}

@@ -13,10 +13,11 @@ use Rattle.basis.specs.Lists.{sum, countUp, any, joined}
 use Rattle.basis.proofs.Bytes.{Fits, length-packed, packed-bytes, append-bytes}
 use Rattle.basis.proofs.Bools.{false-or}
 use Rattle.meaning.specs.Register.{Source, registerTag, registerLayout, yearOf, sourceCount, lineCount, nameBytes, sourceLength, lineLength, sourcesAt, linesAt, namesAt, wholeLength, lineOf, lineAt, sourceEntry, numberIn, methodIn, parameterIn, firstLineIn, lineCountIn, nameLengthIn, nameOffsetIn, namePlace, sourceAt, sourcesOf, lineStart, nameStart, misplaced, lineBytes, sourceEntries, registerHeader, encode}
+use Rattle.meaning.proofs.Sources.{placed as standing}
 use Rattle.demands.specs.Valid.{LaidRight, LineFits, Encodable}
 use Rattle.basis.proofs.Counting.{counted-none}
 use Rattle.basis.proofs.Rows.{numberAt-drop, read-rows, each-bytes, joined-bytes}
-use Rattle.demands.proofs.Figures.{lines-before, names-before, standing-placed, standing, not-misplaced}
+use Rattle.demands.proofs.Figures.{lines-before, names-before, standing-placed, not-misplaced}
 use Rattle.demands.proofs.EncodedEntries.{StandAt, stand-first, stand-next, numbers-at, length-line, line-back, line-bytes, rowsOf, rows-append, length-lines, linesOf, namesOf, entryWidths, entryNumbers, length-more, Room, room-next, entry-fits, length-entry, length-entries, each-line, names-bytes, entries-bytes}
 
 -- From entry j on, a register holds the entries, the lines and the names of these sources, which begin at this line and at this name byte.

@@ -6,13 +6,13 @@ use lib.ListN.{take}
 use Rattle.basis.proofs.Counting.{getD-either}
 use Rattle.meaning.specs.Register.{sourceAt, sourcesOf}
 use Rattle.meaning.specs.Report.{Entry, reportHeader, reportBytes, reportYear, entriesOf, wellFormed}
+use Rattle.meaning.proofs.Sources.{noSource, length-sources, source-at}
 use Rattle.demands.specs.Demand1.{Demand1}
 use Rattle.demands.specs.Demand2.{Refusals, States, Encodings}
 use Rattle.demands.specs.Demands.{Demands}
 use Rattle.demands.proofs.Reports.{report-right}
 use Rattle.demands.proofs.Holds.{is-report, entries-held, written-again}
 use Rattle.demands.proofs.ReportTests.{formed-report}
-use Rattle.demands.proofs.RegisterTests.{noSource, length-sources, source-at}
 use Rattle.demands.proofs.ReportCalls.{combination-exactly, combination-answers, removal-exactly, removal-answers, check-exactly, check-answers, text-exactly, text-answers}
 use Rattle.meaning.proofs.Computed.{starred, kinds, examples, byHand}
 use Rattle.demands.proofs.Tabled.{tabled}

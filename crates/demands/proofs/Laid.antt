@@ -12,10 +12,10 @@ use Rattle.basis.specs.Lists.{Each, sum, countUp, joined}
 use Rattle.basis.proofs.Lists.{length-countUp}
 use Rattle.meaning.specs.declared.RawLine.{RawLine}
 use Rattle.meaning.specs.Register.{yearOf, sourceCount, lineCount, nameBytes, sourceLength, lineLength, sourcesAt, linesAt, namesAt, wholeLength, lineOf, lineAt, sourceEntry, firstLineIn, lineCountIn, nameLengthIn, namePlace, sourceAt, sourcesOf, lineStart, nameStart, lineBytes, sourceEntries, registerHeader, encode}
+use Rattle.meaning.proofs.Sources.{length-sources}
 use Rattle.demands.specs.Valid.{LaidRight, LineFits, SourceFits, Encodable}
 use Rattle.basis.proofs.Rows.{numberAt-drop, numberAt-fits, unpacked, packed-unpacked, bytes-drop, bytes-take, write-rows}
 use Rattle.basis.proofs.Counting.{counted-append}
-use Rattle.demands.proofs.RegisterTests.{length-sources}
 use Rattle.demands.proofs.Calculation.{standing, last-line, last-name, following}
 use Rattle.meaning.proofs.Lines.{next-line}
 use Rattle.demands.proofs.EncodedEntries.{lineWidths, lineNumbers, rowsOf, linesOf, namesOf, entryWidths, entryNumbers}

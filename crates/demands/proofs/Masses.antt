@@ -19,6 +19,7 @@ use Rattle.meaning.specs.Report.{Entry, entryOf, inOrder, reportBytes, reportYe
 use Rattle.meaning.specs.Methods.{decoded}
 use Rattle.meaning.specs.Calls.{massFault, entriesFor, bothEntries, numbered, calculated, combined, removed, combinationTests, combinedReport, removalTests, removedReport, calculationTests, calculatedReport}
 use Rattle.meaning.proofs.Laws.{one-entry-each, entries-of-both}
+use Rattle.meaning.proofs.Sources.{length-sources}
 use Rattle.demands.specs.Table.{adds, takes, total}
 use Rattle.demands.specs.Valid.{entryNumber, noEntry, Reportable, IsReport}
 use Rattle.demands.specs.Demand2.{Defined, Reports, Masses, Fixed}
@@ -26,7 +27,6 @@ use Rattle.demands.proofs.Order.{ascending-distinct}
 use Rattle.demands.proofs.Exactly.{left-written}
 use Rattle.demands.proofs.Sums.{rounds, total-added, total-taken, rows-found, none-taken, co2-nearest, ch4-nearest, n2o-nearest}
 use Rattle.demands.proofs.Holds.{is-report}
-use Rattle.demands.proofs.RegisterTests.{length-sources}
 use Rattle.demands.proofs.Calculated.{Calculable, entered, accepted, register-makes}
 use Rattle.demands.proofs.ReportTests.{passed-form, made-of}
 use Rattle.demands.proofs.ReportCalls.{both-reportable, without-make, combination-passed, removal-passed}

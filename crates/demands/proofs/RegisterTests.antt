@@ -1,26 +1,22 @@
 -- The tests 1 to 4 of a register decide their rows. Assumes nothing.
 use mathlib.Core.Bool.{Bool, true, false, _||_, _&&_, not}
-use mathlib.Core.List.{List, [], _∷_, map}
+use mathlib.Core.List.{List, [], _∷_}
 use mathlib.Core.Logic.{_⊎_, inl, inr, ⊎-elim, _≢_}
-use mathlib.Core.Path.{_≡_, refl, sym, ap, _∙_}
+use mathlib.Core.Path.{_≡_, refl, sym, _∙_}
 use Prim.Native.Nat.{ℕ, _<_}
-use native.Mathlib.Nat.{zero-add}
 use native.Mathlib.Omega.{arith}
 use lib.Dec.{eqb, ltb, leb}
-use lib.ListN.{length, getD, take, length-map, List·getD-map, length-take}
-use lib.Seq.{getD-take}
-use borrow.Author.Tests.{ltb-true, leb-false, eqb-true, eqb-false, lt-ltb, lt-leb, eq-eqb, not-true, not-false}
+use lib.ListN.{length, take}
+use borrow.Author.Tests.{ltb-true, leb-false, eqb-true, eqb-false, lt-ltb, lt-leb, not-true, not-false}
 use Rattle.basis.specs.Bytes.{numberAt, ascii, startsWith}
-use Rattle.basis.specs.Lists.{countUp, stands}
 use Rattle.basis.specs.Answers.{refuseIf, refuseAtFirst, firstRefusal}
 use Rattle.basis.specs.declared.Verdict.the-variants.{Passes}
 use Rattle.basis.proofs.Answers.{each-passes, passed-if}
-use Rattle.basis.proofs.Lists.{length-countUp}
 use Rattle.basis.proofs.Bools.{clash, and-true, or-false, or-either}
-use Rattle.meaning.specs.Register.{Source, registerTag, registerLayout, yearOf, isYear, sourceCount, mostSources, lineCount, mostLines, nameBytes, mostNameBytes, sourcesAt, linesAt, namesAt, wholeLength, headerTests, sourceEntry, numberIn, sourceAt, sourcesOf, wrongSource, sourceTest, restTest, repeats, repeatTest, registerTests}
+use Rattle.meaning.specs.Register.{registerTag, registerLayout, yearOf, isYear, sourceCount, mostSources, lineCount, mostLines, nameBytes, mostNameBytes, sourcesAt, linesAt, namesAt, wholeLength, headerTests, sourcesOf, wrongSource, sourceTest, restTest, repeats, repeatTest, registerTests}
+use Rattle.meaning.proofs.Sources.{sourceNumbers, length-numbers, number-at, repeats-some, some-repeats}
 use Rattle.demands.specs.Exactly.{at, atSmallest, withNumber}
 use Rattle.demands.specs.Refusals.{headerRows, WrongSource, Repeated, registerRows}
-use Rattle.basis.proofs.Counting.{any-some, some-any, getD-counted}
 use Rattle.basis.proofs.Rows.{starts-tag, taken-starts}
 use Rattle.demands.specs.Fields.{linesBefore, namesBefore}
 use Rattle.demands.proofs.Figures.{lines-before, names-before}
@@ -120,44 +116,11 @@ header-long b e =
     let w = or-false (not (eqb (numberAt 4 b 28) whole)) (not (eqb (length b) whole)) (passed-if _ 2 28 (h .1 .1 .1 .1 .1 .1 .1 .1 .1 .0)) in
     eqb-true (length b) whole (not-false _ (w .1))
 
--- the sources of a register, by index
-abbrev pub noSource : Source
-noSource = record { number = 0; method = 0; parameter = 0; name = []; lines = [] }
-
-abbrev pub sourceNumber : Source → ℕ
-sourceNumber s = s .number
-
-pub length-sources : (b : List ℕ) → length (sourcesOf b) ≡ sourceCount b
-unfolding sourcesOf
-length-sources b = length-map (countUp 0 (sourceCount b)) (sourceAt b) ∙ length-countUp 0 (sourceCount b)
-
-pub source-at : (b : List ℕ) (i : ℕ) → i < sourceCount b → getD (sourcesOf b) i noSource ≡ sourceAt b i
-unfolding sourcesOf
-source-at b i l = getD-counted (sourceAt b) noSource (sourceCount b) 0 i l ∙ ap (sourceAt b) (zero-add i)
-
-number-at : (b : List ℕ) (i : ℕ) → i < sourceCount b → getD (map sourceNumber (sourcesOf b)) i 0 ≡ numberIn (sourceEntry b i)
-unfolding sourceAt
-number-at b i l = List·getD-map sourceNumber (sourcesOf b) i noSource ∙ ap sourceNumber (source-at b i l)
-
--- a number stands in the front of a list exactly if it stands at a smaller index
-pub repeats-some : (ns : List ℕ) (i : ℕ) → i < length ns → repeats ns i ≡ true → (j : ℕ) × (j < i) × (getD ns j 0 ≡ getD ns i 0)
-unfolding repeats stands
-repeats-some ns i l e =
-    let r = any-some (λ m. eqb m (getD ns i 0)) 0 (take i ns) e in
-    let m : r .0 < i = omega (arith, rw length-take at (r .1)) in
-    (r .0, m, sym (getD-take i ns (r .0) 0 m) ∙ eqb-true _ _ (r .2))
-
-pub some-repeats : (ns : List ℕ) (i j : ℕ) → i < length ns → j < i → getD ns j 0 ≡ getD ns i 0 → repeats ns i ≡ true
-unfolding repeats stands
-some-repeats ns i j l m e =
-    let q : j < length (take i ns) = rw length-take (omega arith) in
-    some-any (λ m. eqb m (getD ns i 0)) 0 (take i ns) j q (eq-eqb _ _ (getD-take i ns j 0 m ∙ e))
-
 repeat-decides : (b : List ℕ) → Decides (repeatTest (sourcesOf b)) (atSmallest (sourceCount b) (withNumber 4 (Repeated b)))
 unfolding repeatTest
 repeat-decides b =
-    let ns = map sourceNumber (sourcesOf b) in
-    let e : length ns ≡ sourceCount b = length-map (sourcesOf b) sourceNumber ∙ length-sources b in
+    let ns = sourceNumbers b in
+    let e = length-numbers b in
     rw e
     (decide-at-first 4 (repeats ns) (sourceCount b) (Repeated b)
     (λ i l t. let r = repeats-some ns i (omega arith) t in

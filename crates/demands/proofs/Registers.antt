@@ -18,10 +18,10 @@ use Rattle.basis.proofs.Answers.{passed-at-all, each-passes, passes-each, passe
 use Rattle.basis.proofs.Bools.{clash, and-true, true-and, or-false, false-or, not-both}
 use Rattle.meaning.specs.Methods.{listed}
 use Rattle.meaning.specs.Register.{Source, registerTag, registerLayout, yearOf, isYear, sourceCount, mostSources, lineCount, mostLines, nameBytes, mostNameBytes, sourcesAt, linesAt, namesAt, wholeLength, headerTests, sourceAt, sourcesOf, lineStart, nameStart, misplaced, unsound, wrongSource, sourceTest, restTest, repeats, repeatTest, registerTests}
+use Rattle.meaning.proofs.Sources.{placed as standing, noSource, sourceNumber, repeats-some, some-repeats}
 use Rattle.demands.specs.Valid.{Distinct, LaidRight}
 use Rattle.basis.proofs.Rows.{starts-tag, taken-starts}
-use Rattle.demands.proofs.Figures.{lines-before, names-before, standing-placed, placed-standing, standing, not-misplaced}
-use Rattle.demands.proofs.RegisterTests.{noSource, sourceNumber, repeats-some, some-repeats}
+use Rattle.demands.proofs.Figures.{lines-before, names-before, standing-placed, placed-standing, not-misplaced}
 
 -- different keys, by index
 pub distinct-lt : {A : Type 0} (key : A → ℕ) (d : A) (xs : List A) → Distinct key xs → (i j : ℕ) → j < i → i < length xs → key (getD xs j d) ≢ key (getD xs i d)

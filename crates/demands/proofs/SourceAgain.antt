@@ -10,10 +10,10 @@ use Rattle.basis.proofs.Lists.{sortedBy-perm, each-at}
 use Rattle.meaning.specs.Register.{Source, yearOf, sourceCount, sourcesOf}
 use Rattle.meaning.specs.Report.{entryOf, inOrder, reportBytes}
 use Rattle.meaning.specs.Calls.{entriesFor, removed}
+use Rattle.meaning.proofs.Sources.{length-sources}
 use Rattle.demands.specs.Valid.{entryNumber}
 use Rattle.demands.specs.Trees.{wrote, Accepted}
 use Rattle.demands.specs.Demand3.{calculation, CombinesTo, SourceAgain}
-use Rattle.demands.proofs.RegisterTests.{length-sources}
 use Rattle.demands.proofs.Calculated.{Calculable}
 use Rattle.demands.proofs.Combined.{Sources, made-of, length-entries}
 use Rattle.demands.proofs.Dealing.{calculated-made, part-calculated}

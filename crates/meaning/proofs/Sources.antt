@@ -35,19 +35,30 @@ placed b i e =
       names = ltb-false _ _ (c1 .1);
     }
 
--- the numbers of a register's sources, by index
+-- a register's sources and their numbers, by index
+abbrev pub noSource : Source
+noSource = record { number = 0; method = 0; parameter = 0; name = []; lines = [] }
+
+abbrev pub sourceNumber : Source → ℕ
+sourceNumber s = s .number
+
 abbrev pub sourceNumbers : List ℕ → List ℕ
-sourceNumbers b = map (λ s. s .number) (sourcesOf b)
+sourceNumbers b = map sourceNumber (sourcesOf b)
+
+pub length-sources : (b : List ℕ) → length (sourcesOf b) ≡ sourceCount b
+unfolding sourcesOf
+length-sources b = length-map (countUp 0 (sourceCount b)) (sourceAt b) ∙ length-countUp 0 (sourceCount b)
 
 pub length-numbers : (b : List ℕ) → length (sourceNumbers b) ≡ sourceCount b
+length-numbers b = length-map (sourcesOf b) sourceNumber ∙ length-sources b
+
+pub source-at : (b : List ℕ) (i : ℕ) → i < sourceCount b → getD (sourcesOf b) i noSource ≡ sourceAt b i
 unfolding sourcesOf
-length-numbers b = length-map (sourcesOf b) (λ s. s .number) ∙ length-map (countUp 0 (sourceCount b)) (sourceAt b) ∙ length-countUp 0 (sourceCount b)
+source-at b i l = getD-counted (sourceAt b) noSource (sourceCount b) 0 i l ∙ ap (sourceAt b) (zero-add i)
 
 pub number-at : (b : List ℕ) (i : ℕ) → i < sourceCount b → getD (sourceNumbers b) i 0 ≡ numberIn (sourceEntry b i)
-unfolding sourcesOf sourceAt
-number-at b i l =
-    let none : Source = record { number = 0; method = 0; parameter = 0; name = []; lines = [] } in
-    List·getD-map (λ s. s .number) (sourcesOf b) i none ∙ ap (λ (s : Source). s .number) (getD-counted (sourceAt b) none (sourceCount b) 0 i l ∙ ap (sourceAt b) (zero-add i))
+unfolding sourceAt
+number-at b i l = List·getD-map sourceNumber (sourcesOf b) i noSource ∙ ap sourceNumber (source-at b i l)
 
 -- a number stands in the front of a list exactly if it stands at a smaller index
 pub repeats-some : (ns : List ℕ) (i : ℕ) → i < length ns → repeats ns i ≡ true → (j : ℕ) × (j < i) × (getD ns j 0 ≡ getD ns i 0)
