@@ -4,7 +4,6 @@ use mathlib.Core.Path.{_≡_}
 use Prim.Native.Nat.{ℕ}
 use lib.ListN.{replicate}
 use Rattle.basis.specs.Bytes.{ascii}
-use Rattle.basis.specs.Answers.{Outcome}
 use Rattle.meaning.specs.Register.{Source, sourcesOf, encode}
 use Rattle.meaning.specs.Report.{Entry, reportBytes, entriesOf}
 use Rattle.meaning.specs.Calls.{calculated, text}
