@@ -1,7 +1,7 @@
 -- The laws of sums, of counting up and of order by a key. Assumes nothing.
 use mathlib.Core.Bool.{Bool, true, false, cond}
-use mathlib.Core.List.{List, [], _∷_, _++_, map, List·Permᴰ, List·Permᴰ·nil, List·Permᴰ·cons, List·Permᴰ·swap, List·Permᴰ·trans, Permᴰ·refl}
-use mathlib.Core.Path.{_≡_, refl, ap, _∙_}
+use mathlib.Core.List.{List, [], _∷_, _++_, map, map-append, List·Permᴰ, List·Permᴰ·nil, List·Permᴰ·cons, List·Permᴰ·swap, List·Permᴰ·trans, Permᴰ·refl}
+use mathlib.Core.Path.{_≡_, refl, ap, ap₂, _∙_}
 use Prim.Native.Nat.{ℕ, zero, suc, _+_, _<_, zero-le, suc-le-suc}
 use native.Mathlib.Nat.{add-assoc, zero-add, not-suc-le-zero, le-of-suc-le-suc}
 use native.Mathlib.Omega.{arith}
@@ -19,6 +19,17 @@ pub sum-append : (ms ns : List ℕ) → sum (ms ++ ns) ≡ sum ms + sum ns
 unfolding sum
 sum-append [] ns = rw zero-add
 sum-append (m ∷ ms) ns = rw (sum-append ms ns, add-assoc)
+
+pub sum-both : {A : Type 0} (w : A → ℕ) (xs ys : List A) → sum (map w (xs ++ ys)) ≡ sum (map w xs) + sum (map w ys)
+sum-both w xs ys = ap sum (map-append w xs ys) ∙ sum-append (map w xs) (map w ys)
+
+-- a sum does not go by the order
+pub sum-perm : {A : Type 0} (w : A → ℕ) {xs ys : List A} → List·Permᴰ xs ys → sum (map w xs) ≡ sum (map w ys)
+unfolding sum
+sum-perm w List·Permᴰ·nil = refl
+sum-perm w (List·Permᴰ·cons e d) = ap₂ _+_ (ap w e) (sum-perm w d)
+sum-perm w (List·Permᴰ·swap e f) = omega (arith, ap w e, ap w f)
+sum-perm w (List·Permᴰ·trans d f) = sum-perm w d ∙ sum-perm w f
 
 pub length-countUp : (i k : ℕ) → length (countUp i k) ≡ k
 unfolding countUp

@@ -1,15 +1,15 @@
 -- For every way to deal an accepted register's sources out there are registers. Assumes nothing.
 use mathlib.Core.HLevel.{×-prop}
-use mathlib.Core.List.{List, [], _∷_, _++_, map, map-append, List·Permᴰ, List·Permᴰ·nil, List·Permᴰ·cons, List·Permᴰ·swap, List·Permᴰ·trans, Permᴰ·symm}
+use mathlib.Core.List.{List, [], _∷_, map, Permᴰ·symm}
 use mathlib.Core.Logic.{∥∥₁-elim}
-use mathlib.Core.Path.{_≡_, refl, ap, ap₂, _∙_}
+use mathlib.Core.Path.{_≡_, refl, ap, _∙_}
 use Prim.Native.Nat.{ℕ, _+_, _≤_}
 use native.Mathlib.Bridge.{le-prop}
 use native.Mathlib.Nat.{le-trans}
 use native.Mathlib.Omega.{arith}
 use lib.ListN.{length, length-append}
 use Rattle.basis.specs.Lists.{Each, sum, joined}
-use Rattle.basis.proofs.Lists.{sum-append, each-map, each-split}
+use Rattle.basis.proofs.Lists.{sum-both, sum-perm, each-map, each-split}
 use Rattle.meaning.specs.declared.RawLine.{RawLine}
 use Rattle.meaning.specs.Register.{Source, yearOf, sourcesOf}
 use Rattle.demands.specs.Valid.{LineFits, SourceFits, Encodable}
@@ -58,16 +58,6 @@ length-joined : {A B : Type 0} (f : A → List B) (xs : List A) → length (join
 unfolding joined sum
 length-joined f [] = refl
 length-joined f (x ∷ xs) = length-append (f x) (joined (map f xs)) ∙ ap (λ (n : ℕ). length (f x) + n) (length-joined f xs)
-
-pub sum-perm : {A : Type 0} (w : A → ℕ) {xs ys : List A} → List·Permᴰ xs ys → sum (map w xs) ≡ sum (map w ys)
-unfolding sum
-sum-perm w List·Permᴰ·nil = refl
-sum-perm w (List·Permᴰ·cons e d) = ap₂ _+_ (ap w e) (sum-perm w d)
-sum-perm w (List·Permᴰ·swap e f) = omega (arith, ap w e, ap w f)
-sum-perm w (List·Permᴰ·trans d f) = sum-perm w d ∙ sum-perm w f
-
-sum-both : {A : Type 0} (w : A → ℕ) (xs ys : List A) → sum (map w (xs ++ ys)) ≡ sum (map w xs) + sum (map w ys)
-sum-both w xs ys = ap sum (map-append w xs ys) ∙ sum-append (map w xs) (map w ys)
 
 -- the sources of one deal are at most all of them
 pub record Bounded (year : ℕ) (all ss : List Source) : Type 0 where

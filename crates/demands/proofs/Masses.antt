@@ -10,7 +10,7 @@ use borrow.Author.Tests.{ltb-false, eqb-true, not-false}
 use Rattle.basis.specs.Bytes.{numberAt}
 use Rattle.basis.specs.Lists.{sum, countUp, any, without}
 use Rattle.basis.proofs.Answers.{coincide, coincide-part, each-passes, passed-if}
-use Rattle.basis.proofs.Lists.{sortedBy-perm, each-map}
+use Rattle.basis.proofs.Lists.{sum-perm, sortedBy-perm, each-map}
 use Rattle.basis.proofs.Counting.{any-some, getD-either}
 use Rattle.basis.proofs.Rows.{numberAt-fits}
 use Rattle.meaning.specs.Masses.{added, taken, belowZero, masses, equivalent, limit}
@@ -31,7 +31,6 @@ use Rattle.demands.proofs.Calculated.{Calculable, entered, accepted, re
 use Rattle.demands.proofs.ReportTests.{passed-form, made-of}
 use Rattle.demands.proofs.ReportCalls.{both-reportable, without-make, combination-passed, removal-passed}
 use Rattle.demands.proofs.Removal.{without-perm}
-use Rattle.demands.proofs.EveryDealing.{sum-perm}
 
 not-below : (s : Source) → massFault s ≡ 0 → taken 0 (decodedLines s) ≤ added 0 (decodedLines s)
 unfolding massFault belowZero

@@ -12,7 +12,7 @@ use Rattle.basis.specs.Bytes.{numberAt, packed, Bytes, startsWith}
 use Rattle.basis.specs.Lists.{Each, sum, countUp}
 use Rattle.basis.proofs.Bools.{and-true, or-false}
 use Rattle.basis.proofs.Counting.{counted-none, getD-counted, counted-list}
-use Rattle.basis.proofs.Lists.{length-countUp}
+use Rattle.basis.proofs.Lists.{sum-both, length-countUp}
 use Rattle.basis.proofs.Rows.{numberAt-drop, unpacked, unpacked-same, packed-unpacked, bytes-drop}
 use Rattle.meaning.specs.Masses.{gasCount, gases, warming, weighed, equivalent, limit}
 use Rattle.meaning.specs.Register.{mostSources}
@@ -171,11 +171,6 @@ totals-read b f =
     (rw (length-totals (entriesOf b)) at
     (counted-list (totalAt b) 0 (totals (entriesOf b)) 0 (λ i l. ap (totalAt b) (zero-add i) ∙ f .total i (rw (length-totals (entriesOf b)) at l))))
 
--- totals with an entry more
-sum-more : {A : Type 0} (f : A → ℕ) (xs : List A) (x : A) → sum (map f (xs ++ (x ∷ []))) ≡ sum (map f xs) + f x
-unfolding sum
-sum-more f [] x = omega arith
-sum-more f (y ∷ xs) x = rw (sum-more f xs x) (omega arith)
-
 pub total-more : (es : List Entry) (e : Entry) (k : ℕ) → k < figureCount → getD (totals (es ++ (e ∷ []))) k 0 ≡ getD (totals es) k 0 + figure k e
-total-more es e k l = rw (total-is (es ++ (e ∷ [])) k l, total-is es k l) (sum-more (figure k) es e)
+unfolding sum
+total-more es e k l = rw (total-is (es ++ (e ∷ [])) k l, total-is es k l) (omega (arith, sum-both (figure k) es (e ∷ [])))
