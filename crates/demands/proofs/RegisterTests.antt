@@ -9,11 +9,10 @@ use lib.Dec.{eqb, ltb, leb}
 use lib.ListN.{length, take}
 use borrow.Author.Tests.{ltb-true, leb-false, eqb-true, eqb-false, lt-ltb, lt-leb, not-true, not-false}
 use Rattle.basis.specs.Bytes.{numberAt, ascii, startsWith}
-use Rattle.basis.specs.Answers.{refuseIf, refuseAtFirst, firstRefusal}
-use Rattle.basis.specs.declared.Verdict.the-variants.{Passes}
-use Rattle.basis.proofs.Answers.{each-passes, passed-if}
+use Rattle.basis.specs.Answers.{refuseIf, refuseAtFirst}
 use Rattle.basis.proofs.Bools.{clash, and-true, or-false, or-either}
 use Rattle.meaning.specs.Register.{registerTag, registerLayout, yearOf, isYear, sourceCount, mostSources, lineCount, mostLines, nameBytes, mostNameBytes, sourcesAt, linesAt, namesAt, wholeLength, headerTests, sourcesOf, wrongSource, sourceTest, restTest, repeats, repeatTest, registerTests}
+use Rattle.meaning.proofs.Registers.{right-header}
 use Rattle.meaning.proofs.Sources.{sourceNumbers, length-numbers, number-at, repeats-some, some-repeats}
 use Rattle.demands.specs.Exactly.{at, atSmallest, withNumber}
 use Rattle.demands.specs.Refusals.{headerRows, WrongSource, Repeated, registerRows}
@@ -107,15 +106,6 @@ rest-decides b =
     rw (lines-before b (sourceCount b), names-before b (sourceCount b))
     (decide-either (linesBefore b (sourceCount b)) (lineCount b) (namesBefore b (sourceCount b)) (nameBytes b) 3 (sourceCount b))
 
--- a header that passes states the length of the bytes lent
-header-long : (b : List ℕ) → firstRefusal (headerTests b) ≡ Passes → length b ≡ wholeLength (sourceCount b) (lineCount b) (nameBytes b)
-unfolding headerTests
-header-long b e =
-    let h = each-passes (headerTests b) e in
-    let whole = wholeLength (sourceCount b) (lineCount b) (nameBytes b) in
-    let w = or-false (not (eqb (numberAt 4 b 28) whole)) (not (eqb (length b) whole)) (passed-if _ 2 28 (h .1 .1 .1 .1 .1 .1 .1 .1 .1 .0)) in
-    eqb-true (length b) whole (not-false _ (w .1))
-
 repeat-decides : (b : List ℕ) → Decides (repeatTest (sourcesOf b)) (atSmallest (sourceCount b) (withNumber 4 (Repeated b)))
 unfolding repeatTest
 repeat-decides b =
@@ -132,5 +122,5 @@ unfolding registerTests
 register-decides b = (
   decide-if (ltb (length b) sourcesAt) 1 0 (length b < sourcesAt) (ltb-true (length b) sourcesAt) (λ e l. clash (lt-ltb (length b) sourcesAt l) e),
   λ _. decide-append (headerTests b) (sourceTest b ∷ restTest b ∷ repeatTest (sourcesOf b) ∷ []) (headerRows b) _ (header-decides b)
-      (λ h. (source-decides b (header-long b h), λ _. (rest-decides b, λ _. (repeat-decides b, λ _. tt)))),
+      (λ h. (source-decides b (right-header b h .filled), λ _. (rest-decides b, λ _. (repeat-decides b, λ _. tt)))),
 )

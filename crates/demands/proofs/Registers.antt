@@ -8,16 +8,16 @@ use native.Mathlib.Nat.{not-suc-le-zero, le-of-suc-le-suc}
 use native.Mathlib.Omega.{arith}
 use lib.Dec.{eqb, ltb, leb}
 use lib.ListN.{length, getD, length-map, List·getD-map}
-use borrow.Author.Tests.{ltb-false, leb-true, eqb-true, eqb-false, le-ltb, le-leb, eq-eqb, not-false}
+use borrow.Author.Tests.{leb-true, eqb-false, le-ltb, le-leb, eq-eqb, not-false}
 use Rattle.basis.proofs.Lists.{each-at, at-each}
-use Rattle.basis.specs.Lists.{Each}
 use Rattle.basis.specs.declared.Verdict.the-variants.{Passes}
 use Rattle.basis.specs.Bytes.{numberAt, startsWith}
 use Rattle.basis.specs.Answers.{refuseIf, firstRefusal}
-use Rattle.basis.proofs.Answers.{passed-at-all, each-passes, passes-each, passed-if, if-passed}
+use Rattle.basis.proofs.Answers.{passed-at-all, passes-each, if-passed}
 use Rattle.basis.proofs.Bools.{clash, and-true, true-and, or-false, false-or, not-both}
 use Rattle.meaning.specs.Methods.{listed}
 use Rattle.meaning.specs.Register.{Source, registerTag, registerLayout, yearOf, isYear, sourceCount, mostSources, lineCount, mostLines, nameBytes, mostNameBytes, sourcesAt, linesAt, namesAt, wholeLength, headerTests, sourceAt, sourcesOf, lineStart, nameStart, misplaced, unsound, wrongSource, sourceTest, restTest, repeats, repeatTest, registerTests}
+use Rattle.meaning.proofs.Registers.{right-register}
 use Rattle.meaning.proofs.Sources.{placed as standing, noSource, sourceNumber, repeats-some, some-repeats}
 use Rattle.demands.specs.Valid.{Distinct, LaidRight}
 use Rattle.basis.proofs.Rows.{starts-tag, taken-starts}
@@ -80,40 +80,32 @@ pub record Passed (b : List ℕ) : Type 0 where
   pub sound : (i : ℕ) → i < sourceCount b → unsound (sourceAt b i) ≡ false
   pub once : Distinct sourceNumber (sourcesOf b)
 
-same : (a b n p : ℕ) → refuseIf (not (eqb a b)) n p ≡ Passes → a ≡ b
-same a b n p e = eqb-true a b (not-false (eqb a b) (passed-if (not (eqb a b)) n p e))
-
 pub passed : (b : List ℕ) → firstRefusal (registerTests b) ≡ Passes → Passed b
-unfolding registerTests headerTests sourceTest restTest wrongSource
+unfolding wrongSource
 passed b e =
-    let h = each-passes (registerTests b) e in
-    let tag : Each (λ c. 0 < c) registerTag = omega arith in
-    let h2 = h .1 .1 .1 .1 .1 .1 .1 .1 .1 .1 in
-    let y = and-true _ _ (not-false _ (passed-if _ 2 6 (h .1 .1 .1 .0))) in
-    let w = or-false _ _ (passed-if _ 2 28 (h2 .0)) in
-    let right = passed-at-all 3 (wrongSource b) (sourceCount b) .0 (h2 .1 .0) in
-    let r = or-false _ _ (passed-if _ 3 (sourceCount b) (h2 .1 .1 .0)) in
+    let r = right-register b e in
+    let h = r .header in
     record {
       laid =
           record {
-            long = ltb-false _ _ (passed-if _ 1 0 (h .0));
-            tag = starts-tag registerTag b tag (not-false _ (passed-if _ 2 0 (h .1 .0)));
-            layout = same _ _ 2 4 (h .1 .1 .0);
-            year = (leb-true _ _ (y .0), leb-true _ _ (y .1));
-            sources = ltb-false _ _ (passed-if _ 2 8 (h .1 .1 .1 .1 .0));
-            lines = ltb-false _ _ (passed-if _ 2 10 (h .1 .1 .1 .1 .1 .0));
-            names = ltb-false _ _ (passed-if _ 2 12 (h .1 .1 .1 .1 .1 .1 .0));
-            atSources = same _ _ 2 16 (h .1 .1 .1 .1 .1 .1 .1 .0);
-            atLines = same _ _ 2 20 (h .1 .1 .1 .1 .1 .1 .1 .1 .0);
-            atNames = same _ _ 2 24 (h .1 .1 .1 .1 .1 .1 .1 .1 .1 .0);
-            whole = eqb-true _ _ (not-false _ (w .0));
-            filled = eqb-true _ _ (not-false _ (w .1));
-            placed = λ i l. standing-placed b i (standing b i (or-false (misplaced b i) (unsound (sourceAt b i)) (right i l) .0));
-            lastLine = sym (lines-before b (sourceCount b)) ∙ eqb-true _ _ (not-false _ (r .0));
-            lastName = sym (names-before b (sourceCount b)) ∙ eqb-true _ _ (not-false _ (r .1));
+            long = r .long;
+            tag = starts-tag registerTag b (omega arith) (h .tag);
+            layout = h .layout;
+            year = h .year;
+            sources = h .sources;
+            lines = h .lines;
+            names = h .names;
+            atSources = h .atSources;
+            atLines = h .atLines;
+            atNames = h .atNames;
+            whole = h .whole;
+            filled = h .filled;
+            placed = λ i l. standing-placed b i (standing b i (or-false (misplaced b i) (unsound (sourceAt b i)) (r .each i l) .0));
+            lastLine = sym (lines-before b (sourceCount b)) ∙ r .lastLine;
+            lastName = sym (names-before b (sourceCount b)) ∙ r .lastName;
           };
-      sound = λ i l. or-false (misplaced b i) (unsound (sourceAt b i)) (right i l) .1;
-      once = not-repeated (sourcesOf b) (h2 .1 .1 .1 .0);
+      sound = λ i l. or-false (misplaced b i) (unsound (sourceAt b i)) (r .each i l) .1;
+      once = not-repeated (sourcesOf b) (r .once);
     }
 
 -- and what makes it pass

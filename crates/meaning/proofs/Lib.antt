@@ -2,6 +2,7 @@ pub mod Opened
 pub mod Computed
 pub mod Laws
 pub mod Sources
+pub mod Registers
 pub mod Reports
 pub mod Calls
 pub mod Masses
