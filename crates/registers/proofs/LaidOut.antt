@@ -1,35 +1,22 @@
 -- Tests 1 to 3, and what a header that has passed is good for. Assumes nothing.
-use mathlib.Core.Bool.{not}
 use mathlib.Core.List.{List, [], _∷_}
 use mathlib.Core.Path.{_≡_, sym, _∙_}
 use Prim.Native.Nat.{ℕ, _≤_, _<_}
 use borrow.Author.Needs.{needs}
-use borrow.Author.Tests.{ltb-false, lt-ltb, le-ltb, eqb-true, not-false}
-use lib.Dec.{eqb}
+use borrow.Author.Tests.{lt-ltb, le-ltb}
 use lib.ListN.{length}
 use Rattle.basis.specs.declared.Verdict.{Verdict}
 use Rattle.basis.specs.declared.Verdict.the-variants.{Passes, Refuses}
-use Rattle.basis.specs.Bytes.{numberAt}
 use Rattle.basis.specs.Answers.{firstRefusal}
-use Rattle.basis.proofs.Answers.{each-passes, passed-if, passed-then, refused-then}
-use Rattle.basis.proofs.Bools.{or-false}
-use Rattle.meaning.specs.Register.{sourcesAt, sourceCount, lineCount, nameBytes, wholeLength, headerTests, sourceTest, restTest}
+use Rattle.basis.proofs.Answers.{passed-then, refused-then}
+use Rattle.meaning.specs.Register.{sourcesAt, headerTests, sourceTest, restTest}
+use Rattle.meaning.proofs.Registers.{right-header}
 use Rattle.registers.specs.Layout.{layoutTests, Headed}
 use Rattle.registers.proofs.sources.Passing.{overSources}
 
 -- a header that passes
 pub headed : (b : List ℕ) → firstRefusal (headerTests b) ≡ Passes → Headed b
-unfolding headerTests
-headed b e =
-    let h = each-passes (headerTests b) e in
-    let whole = wholeLength (sourceCount b) (lineCount b) (nameBytes b) in
-    let last = or-false (not (eqb (numberAt 4 b 28) whole)) (not (eqb (length b) whole)) (passed-if _ 2 28 (h .1 .1 .1 .1 .1 .1 .1 .1 .1 .0)) in
-    record {
-      sources = ltb-false _ _ (passed-if _ 2 8 (h .1 .1 .1 .0));
-      lines = ltb-false _ _ (passed-if _ 2 10 (h .1 .1 .1 .1 .0));
-      names = ltb-false _ _ (passed-if _ 2 12 (h .1 .1 .1 .1 .1 .0));
-      whole = eqb-true _ _ (not-false _ (last .1));
-    }
+headed b e = let h = right-header b e in record { sources = h .sources; lines = h .lines; names = h .names; whole = h .filled }
 
 module _ (b : List ℕ) where
   pub short : length b < sourcesAt → Refuses 1 0 ≡ firstRefusal (layoutTests b)
