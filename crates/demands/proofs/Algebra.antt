@@ -13,7 +13,7 @@ use Rattle.basis.specs.declared.Verdict.the-variants.{Passes, Refuses}
 use Rattle.basis.specs.Bytes.{Bytes}
 use Rattle.basis.specs.Answers.{firstRefusal, settled}
 use Rattle.basis.proofs.Answers.{never, each-passes, passed-if}
-use Rattle.basis.proofs.Lists.{sortedBy-perm}
+use Rattle.basis.proofs.Lists.{_&_, sortedBy-perm}
 use Rattle.meaning.specs.Report.{Entry, inOrder, reportBytes, reportYear, entryCount, entriesOf}
 use Rattle.meaning.specs.Calls.{written, roomTest, bothEntries, combined, combinationTests, combinedReport}
 use Rattle.demands.specs.Valid.{entryNumber, Reportable}
@@ -56,22 +56,14 @@ no-such b g f = f (reportYear b) (entriesOf b) (formed-report b (g .bytes) (g .f
 
 module _ (one other : List ℕ) (g : GoodReport one) (h : GoodReport other) (buffer : List ℕ) where
   agree : Agree (combinationRows one other (length buffer)) (combinationRows other one (length buffer))
-  agree = (
-    λ n p. (λ r. absurd (no-such one g (r .2)), λ r. absurd (no-such other h (r .2))),
-    (
-      λ n p. (λ r. absurd (no-such other h (r .2)), λ r. absurd (no-such one g (r .2))),
-      (
-        λ n p. (λ r. (r .0, r .1, λ e. r .2 (sym e)), λ r. (r .0, r .1, λ e. r .2 (sym e))),
-        (
-          λ n p. (λ r. (r .0, (r .1 .1, r .1 .0), λ x l q. r .2 x l (q .1, q .0)), λ r. (r .0, (r .1 .1, r .1 .0), λ x l q. r .2 x l (q .1, q .0))),
-          (
-            λ n p. rw (add-comm (entryCount one) (entryCount other)) (λ r. r, λ r. r),
-            (λ n p. rw (add-comm (entryCount one) (entryCount other)) (λ r. r, λ r. r), tt),
-          ),
-        ),
-      ),
-    ),
-  )
+  agree =
+      (λ n p. (λ r. absurd (no-such one g (r .2)), λ r. absurd (no-such other h (r .2))))
+      & (λ n p. (λ r. absurd (no-such other h (r .2)), λ r. absurd (no-such one g (r .2))))
+      & (λ n p. (λ r. (r .0, r .1, λ e. r .2 (sym e)), λ r. (r .0, r .1, λ e. r .2 (sym e))))
+      & (λ n p. (λ r. (r .0, (r .1 .1, r .1 .0), λ x l q. r .2 x l (q .1, q .0)), λ r. (r .0, (r .1 .1, r .1 .0), λ x l q. r .2 x l (q .1, q .0))))
+      & (λ n p. rw (add-comm (entryCount one) (entryCount other)) (λ r. r, λ r. r))
+      & (λ n p. rw (add-comm (entryCount one) (entryCount other)) (λ r. r, λ r. r))
+      & tt
 
 -- two lists in order that are dealt of one another are one
 in-order-once : {y z : ℕ} (xs zs : List Entry) → Reportable y xs → Reportable z zs → List·Permᴰ xs zs → xs ≡ zs

@@ -11,10 +11,10 @@ use borrow.Author.Tests.{ltb-false, eqb-true, le-ltb, eq-eqb, not-false}
 use Rattle.basis.specs.declared.Verdict.{Verdict}
 use Rattle.basis.specs.declared.Verdict.the-variants.{Passes}
 use Rattle.basis.specs.Bytes.{Bytes}
-use Rattle.basis.specs.Lists.{Each, any, joined}
+use Rattle.basis.specs.Lists.{Each, countUp, any, joined}
 use Rattle.basis.specs.Answers.{firstRefusal}
 use Rattle.basis.proofs.Answers.{passed-at-first, passed-at-all, passed-then, if-passed, each-passes, passed-append, passes-each}
-use Rattle.basis.proofs.Lists.{length-countUp, length-sortedBy, each-at, at-each, each-map, sortedBy-each}
+use Rattle.basis.proofs.Lists.{_&_, length-countUp, length-sortedBy, each-at, at-each, each-map, sortedBy-each}
 use Rattle.basis.proofs.Bools.{clash, and-true, not-both, or-either}
 use Rattle.meaning.specs.declared.Decoded.the-variants.{Bad}
 use Rattle.meaning.specs.Methods.{within, listed, isBad}
@@ -27,12 +27,13 @@ use Rattle.meaning.proofs.Sources.{noSource, sourceNumber, length-sources, sour
 use Rattle.demands.specs.Valid.{Entered, Distinct, entryNumber, Reportable}
 use Rattle.demands.specs.Demand1.{Answers}
 use Rattle.demands.specs.Table.{Among}
-use Rattle.demands.specs.Exactly.{Exactly}
+use Rattle.demands.specs.Exactly.{at, Exactly}
 use Rattle.demands.specs.Refusals.{registerRows, calculationRows}
 use Rattle.basis.proofs.Counting.{any-some, some-any, any-append, append-any}
 use Rattle.demands.proofs.Figures.{equivalent-is}
 use Rattle.demands.proofs.Order.{sorted-ascending}
 use Rattle.basis.proofs.Rows.{numberAt-fits, bytes-drop}
+use Rattle.demands.proofs.Among.{range-among}
 use Rattle.demands.proofs.Exactly.{decide-append, DecideAll, Numbered, exactly-written, zero-passes, answers, room-decides}
 use Rattle.demands.proofs.Reports.{length-report}
 use Rattle.demands.proofs.RegisterTests.{register-decides}
@@ -168,14 +169,16 @@ each-calculable (s ∷ ss) n u g k = (record { number = n .0; sound = u .0; good
 abbrev pub calculationNumbers : List ℕ
 calculationNumbers = 1 ∷ 2 ∷ 3 ∷ 4 ∷ 5 ∷ 6 ∷ 7 ∷ 8 ∷ []
 
-one : {n : ℕ} → n ≡ 1 → Among calculationNumbers n
-one e = inl e
+-- the numbers of its rows
+one-of : (m : ℕ) → (1 ≤ m) × (m ≤ 8) → {n : ℕ} → n ≡ m → Among calculationNumbers n
+unfolding countUp
+one-of m l {n} e = range-among 1 8 n (omega arith) (omega arith)
 
-two : {n : ℕ} → n ≡ 2 → Among calculationNumbers n
-two e = inr (inl e)
+row-of : (m : ℕ) → (1 ≤ m) × (m ≤ 8) → {place : ℕ} {C : Type 0} (n p : ℕ) → at m place C n p → Among calculationNumbers n
+row-of m l n p r = one-of m l (r .0)
 
-three : {n : ℕ} → n ≡ 3 → Among calculationNumbers n
-three e = inr (inr (inl e))
+field : {place : ℕ} {C : Type 0} (n p : ℕ) → at 2 place C n p → Among calculationNumbers n
+field = row-of 2 (omega arith)
 
 module _ (b : List ℕ) (h : Bytes b) where
   number-fits : (i : ℕ) → i < sourceCount b → sourceAt b i .number < 2 ^ 32
@@ -223,55 +226,16 @@ module _ (b : List ℕ) (h : Bytes b) where
   numbers report =
       record {
         positive = omega arith;
-        among = (
-          λ n p r. one (r .0),
-          (
-            λ n p r. two (r .0),
-            (
-              λ n p r. two (r .0),
-              (
-                λ n p r. two (r .0),
-                (
-                  λ n p r. two (r .0),
-                  (
-                    λ n p r. two (r .0),
-                    (
-                      λ n p r. two (r .0),
-                      (
-                        λ n p r. two (r .0),
-                        (
-                          λ n p r. two (r .0),
-                          (
-                            λ n p r. two (r .0),
-                            (
-                              λ n p r. two (r .0),
-                              (
-                                λ n p r. three (r .1 .0),
-                                (
-                                  λ n p r. three (r .0),
-                                  (
-                                    λ n p r. inr (inr (inr (inl (r .1 .0)))),
-                                    (
-                                      λ n p r. inr (inr (inr (inr (inl (r .1 .0))))),
-                                      (
-                                        λ n p r. inr (inr (inr (inr (inr (⊎-elim (λ f. inl (f .0)) (λ f. inr (inl (f .0))) (r .1)))))),
-                                        (λ n p r. inr (inr (inr (inr (inr (inr (inr (inl (r .0)))))))), tt),
-                                      ),
-                                    ),
-                                  ),
-                                ),
-                              ),
-                            ),
-                          ),
-                        ),
-                      ),
-                    ),
-                  ),
-                ),
-              ),
-            ),
-          ),
-        );
+        among =
+            row-of 1 (omega arith)
+            & field & field & field & field & field & field & field & field & field & field
+            & (λ n p r. one-of 3 (omega arith) (r .1 .0))
+            & row-of 3 (omega arith)
+            & (λ n p r. one-of 4 (omega arith) (r .1 .0))
+            & (λ n p r. one-of 5 (omega arith) (r .1 .0))
+            & (λ n p r. ⊎-elim (λ f. one-of 6 (omega arith) (f .0)) (λ f. one-of 7 (omega arith) (f .0)) (r .1))
+            & row-of 8 (omega arith)
+            & tt;
       }
 
   -- tests that all pass: the register passes 1 to 4, and nothing refuses its sources
@@ -307,10 +271,8 @@ module _ (b : List ℕ) (h : Bytes b) where
       let l = made-length p c in
       rw f
       (passed-then (registerTests b) (later report) (passing b p)
-      ∙ passes-each (later report) (
-        good-lines (sourcesOf b) (each-map (λ s h. h .good) (sourcesOf b) c),
-        (
-          kept-sums (sourcesOf b) (each-map (λ s h. h .kept) (sourcesOf b) c),
-          (if-passed (ltb (length report) (length (calculatedReport b))) 8 (length (calculatedReport b)) (le-ltb (length report) (length (calculatedReport b)) (omega arith)), tt),
-        ),
-      ))
+      ∙ passes-each (later report)
+      (good-lines (sourcesOf b) (each-map (λ s h. h .good) (sourcesOf b) c)
+      & kept-sums (sourcesOf b) (each-map (λ s h. h .kept) (sourcesOf b) c)
+      & if-passed (ltb (length report) (length (calculatedReport b))) 8 (length (calculatedReport b)) (le-ltb (length report) (length (calculatedReport b)) (omega arith))
+      & tt))

@@ -14,7 +14,7 @@ use Rattle.basis.specs.declared.Verdict.the-variants.{Passes, Refuses}
 use Rattle.basis.specs.Bytes.{splice}
 use Rattle.basis.specs.Lists.{Each, joined}
 use Rattle.basis.specs.Answers.{firstRefusal, Outcome, settled}
-use Rattle.basis.proofs.Lists.{sortedBy-perm, each-at, each-split}
+use Rattle.basis.proofs.Lists.{_&_, sortedBy-perm, each-at, each-split}
 use Rattle.meaning.proofs.Laws.{length-inOrder}
 use Rattle.meaning.specs.Register.{Source, mostSources}
 use Rattle.meaning.specs.Report.{Entry, entryOf, inOrder, reportBytes, reportLength, reportYear, entryCount, wellFormed}
@@ -76,24 +76,16 @@ module _ (y : ℕ) (xs zs : List Entry) (v : Reportable y xs) (w : Reportable y 
       let few : entryCount one + entryCount other ≤ mostSources = rw (count-back y xs v, count-back y zs w) n in
       let r =
       accepted-written (combinationTests one other) made buffer
-      (passes-each (combinationTests one other ++ (roomTest made buffer ∷ [])) (
-        if-passed (not (wellFormed one)) 9 1 (ap not (report-right y xs v)),
-        (
-          if-passed (not (wellFormed other)) 9 2 (ap not (report-right y zs w)),
-          (
-            if-passed (not (eqb (reportYear one) (reportYear other))) 10 0 (ap not (eq-eqb (reportYear one) (reportYear other) (year-back y xs v ∙ sym (year-back y zs w)))),
-            (
-              nowhere-passes (sharedTest one other) _
-                  (shared-decides one other (report-bytes y xs v) (report-bytes y zs w) (report-right y xs v) (report-right y zs w))
-                  (λ m q t. apart-nowhere a q (t .1)),
-              (
-                if-passed (ltb mostSources (entryCount one + entryCount other)) 12 (entryCount one + entryCount other) (le-ltb mostSources (entryCount one + entryCount other) few),
-                (enough-room made buffer (omega arith), tt),
-              ),
-            ),
-          ),
-        ),
-      )) in
+      (passes-each (combinationTests one other ++ (roomTest made buffer ∷ []))
+      (if-passed (not (wellFormed one)) 9 1 (ap not (report-right y xs v))
+      & if-passed (not (wellFormed other)) 9 2 (ap not (report-right y zs w))
+      & if-passed (not (eqb (reportYear one) (reportYear other))) 10 0 (ap not (eq-eqb (reportYear one) (reportYear other) (year-back y xs v ∙ sym (year-back y zs w))))
+      & nowhere-passes (sharedTest one other) _
+      (shared-decides one other (report-bytes y xs v) (report-bytes y zs w) (report-right y xs v) (report-right y zs w))
+      (λ m q t. apart-nowhere a q (t .1))
+      & if-passed (ltb mostSources (entryCount one + entryCount other)) 12 (entryCount one + entryCount other) (le-ltb mostSources (entryCount one + entryCount other) few)
+      & enough-room made buffer (omega arith)
+      & tt)) in
       (r .0, r .1 ∙ is)
 
 -- two lists whose keys are all different are apart

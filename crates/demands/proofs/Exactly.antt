@@ -33,6 +33,11 @@ DecideAll [] (row ∷ rows) = ⊥
 DecideAll (v ∷ vs) [] = ⊥
 DecideAll (v ∷ vs) (row ∷ rows) = Decides v row × (v ≡ Passes → DecideAll vs rows)
 
+-- one by one, where a test decides its row whatever was tested before it
+infixr 20 _then_
+pub _then_ : {A B C : Type 0} → A → C → A × (B → C)
+a then c = (a, λ _. c)
+
 pub passes-nowhere : (v : Verdict) (row : Row) → Decides v row → v ≡ Passes → Nowhere row
 passes-nowhere v row d e n p r = never (sym e ∙ d n p .1 r)
 

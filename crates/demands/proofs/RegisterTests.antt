@@ -20,7 +20,7 @@ use Rattle.basis.proofs.Rows.{starts-tag, taken-starts}
 use Rattle.demands.specs.Fields.{linesBefore, namesBefore}
 use Rattle.demands.proofs.Figures.{lines-before, names-before}
 use Rattle.demands.proofs.WrongSource.{wrong-then, then-wrong}
-use Rattle.demands.proofs.Exactly.{Decides, DecideAll, decide-if, decide-first, decide-append}
+use Rattle.demands.proofs.Exactly.{_then_, Decides, DecideAll, decide-if, decide-first, decide-append}
 
 -- a test that a number is the one laid down; that it is not above a limit
 decide-is : (a b number place : ℕ) → Decides (refuseIf (not (eqb a b)) number place) (at number place (a ≢ b))
@@ -51,39 +51,23 @@ year-decides y =
 
 pub header-decides : (b : List ℕ) → DecideAll (headerTests b) (headerRows b)
 unfolding headerTests
-header-decides b = (
-  decide-if (not (startsWith registerTag b)) 2 0 (take 4 b ≢ ascii "GREG")
-      (λ e f. clash (taken-starts registerTag b f) (not-true (startsWith registerTag b) e))
-      (λ e f. f (starts-tag registerTag b (omega arith) (not-false (startsWith registerTag b) e))),
-  λ _. (
-    decide-is (numberAt 2 b 4) registerLayout 2 4,
-    λ _. (
-      year-decides (yearOf b),
-      λ _. (
-        decide-above mostSources (sourceCount b) 2 8,
-        λ _. (
-          decide-above mostLines (lineCount b) 2 10,
-          λ _. (
-            decide-above mostNameBytes (nameBytes b) 2 12,
-            λ _. (
-              decide-is (numberAt 4 b 16) sourcesAt 2 16,
-              λ _. (
-                decide-is (numberAt 4 b 20) (linesAt (sourceCount b)) 2 20,
-                λ _. (
-                  decide-is (numberAt 4 b 24) (namesAt (sourceCount b) (lineCount b)) 2 24,
-                  λ _. (
-                    decide-either (numberAt 4 b 28) (wholeLength (sourceCount b) (lineCount b) (nameBytes b)) (length b) (wholeLength (sourceCount b) (lineCount b) (nameBytes b)) 2 28,
-                    λ _. tt,
-                  ),
-                ),
-              ),
-            ),
-          ),
-        ),
-      ),
-    ),
-  ),
-)
+header-decides b =
+    let n = sourceCount b in
+    let m = lineCount b in
+    let whole = wholeLength n m (nameBytes b) in
+    decide-if (not (startsWith registerTag b)) 2 0 (take 4 b ≢ ascii "GREG")
+    (λ e f. clash (taken-starts registerTag b f) (not-true (startsWith registerTag b) e))
+    (λ e f. f (starts-tag registerTag b (omega arith) (not-false (startsWith registerTag b) e)))
+    then decide-is (numberAt 2 b 4) registerLayout 2 4
+    then year-decides (yearOf b)
+    then decide-above mostSources n 2 8
+    then decide-above mostLines m 2 10
+    then decide-above mostNameBytes (nameBytes b) 2 12
+    then decide-is (numberAt 4 b 16) sourcesAt 2 16
+    then decide-is (numberAt 4 b 20) (linesAt n) 2 20
+    then decide-is (numberAt 4 b 24) (namesAt n m) 2 24
+    then decide-either (numberAt 4 b 28) whole (length b) whole 2 28
+    then tt
 
 -- a test that refuses with one number at the first index that is wrong
 pub decide-at-first : (number : ℕ) (test : ℕ → Bool) (count : ℕ) (W : ℕ → Type 0) → ((i : ℕ) → i < count → test i ≡ true → W i)
@@ -119,8 +103,7 @@ repeat-decides b =
 
 pub register-decides : (b : List ℕ) → DecideAll (registerTests b) (registerRows b)
 unfolding registerTests
-register-decides b = (
-  decide-if (ltb (length b) sourcesAt) 1 0 (length b < sourcesAt) (ltb-true (length b) sourcesAt) (λ e l. clash (lt-ltb (length b) sourcesAt l) e),
-  λ _. decide-append (headerTests b) (sourceTest b ∷ restTest b ∷ repeatTest (sourcesOf b) ∷ []) (headerRows b) _ (header-decides b)
-      (λ h. (source-decides b (right-header b h .filled), λ _. (rest-decides b, λ _. (repeat-decides b, λ _. tt)))),
-)
+register-decides b =
+    decide-if (ltb (length b) sourcesAt) 1 0 (length b < sourcesAt) (ltb-true (length b) sourcesAt) (λ e l. clash (lt-ltb (length b) sourcesAt l) e)
+    then decide-append (headerTests b) (sourceTest b ∷ restTest b ∷ repeatTest (sourcesOf b) ∷ []) (headerRows b) _ (header-decides b)
+    (λ h. source-decides b (right-header b h .filled) then rest-decides b then repeat-decides b then tt)

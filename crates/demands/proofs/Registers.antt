@@ -9,7 +9,7 @@ use native.Mathlib.Omega.{arith}
 use lib.Dec.{eqb, ltb, leb}
 use lib.ListN.{length, getD, length-map, List·getD-map}
 use borrow.Author.Tests.{leb-true, eqb-false, le-ltb, le-leb, eq-eqb, not-false}
-use Rattle.basis.proofs.Lists.{each-at, at-each}
+use Rattle.basis.proofs.Lists.{_&_, each-at, at-each}
 use Rattle.basis.specs.declared.Verdict.the-variants.{Passes}
 use Rattle.basis.specs.Bytes.{numberAt, startsWith}
 use Rattle.basis.specs.Answers.{refuseIf, firstRefusal}
@@ -112,6 +112,10 @@ passed b e =
 differs : (a b n p : ℕ) → a ≡ b → refuseIf (not (eqb a b)) n p ≡ Passes
 differs a b n p e = if-passed (not (eqb a b)) n p (ap not (eq-eqb a b e))
 
+differ : (a b c d n p : ℕ) → a ≡ b → c ≡ d → refuseIf (not (eqb a b) || not (eqb c d)) n p ≡ Passes
+differ a b c d n p e f =
+    if-passed (not (eqb a b) || not (eqb c d)) n p (false-or (not (eqb a b)) (not (eqb c d)) (ap not (eq-eqb a b e)) (ap not (eq-eqb c d f)))
+
 within-most : (most a n p : ℕ) → a ≤ most → refuseIf (ltb most a) n p ≡ Passes
 within-most most a n p l = if-passed (ltb most a) n p (le-ltb most a l)
 
@@ -121,45 +125,20 @@ passing b h =
     let l = h .laid in
     let n = sourceCount b in
     let whole = wholeLength n (lineCount b) (nameBytes b) in
-    passes-each (registerTests b) (
-      if-passed (ltb (length b) sourcesAt) 1 0 (le-ltb (length b) sourcesAt (l .long)),
-      (
-        if-passed (not (startsWith registerTag b)) 2 0 (ap not (taken-starts registerTag b (l .tag))),
-        (
-          differs (numberAt 2 b 4) registerLayout 2 4 (l .layout),
-          (
-            if-passed (not (isYear (yearOf b))) 2 6 (ap not (true-and (leb 1990 (yearOf b)) (leb (yearOf b) 2100) (le-leb _ _ (l .year .0)) (le-leb _ _ (l .year .1)))),
-            (
-              within-most mostSources n 2 8 (l .sources),
-              (
-                within-most mostLines (lineCount b) 2 10 (l .lines),
-                (
-                  within-most mostNameBytes (nameBytes b) 2 12 (l .names),
-                  (
-                    differs (numberAt 4 b 16) sourcesAt 2 16 (l .atSources),
-                    (
-                      differs (numberAt 4 b 20) (linesAt n) 2 20 (l .atLines),
-                      (
-                        differs (numberAt 4 b 24) (namesAt n (lineCount b)) 2 24 (l .atNames),
-                        (
-                          if-passed (not (eqb (numberAt 4 b 28) whole) || not (eqb (length b) whole)) 2 28
-                              (false-or (not (eqb (numberAt 4 b 28) whole)) (not (eqb (length b) whole)) (ap not (eq-eqb _ _ (l .whole))) (ap not (eq-eqb _ _ (l .filled)))),
-                          (
-                            passed-at-all 3 (wrongSource b) n .1 (λ i m. false-or (misplaced b i) (unsound (sourceAt b i)) (not-misplaced b i (placed-standing b i (l .placed i m))) (h .sound i m)),
-                            (
-                              if-passed (not (eqb (lineStart b n) (lineCount b)) || not (eqb (nameStart b n) (nameBytes b))) 3 n
-                                  (false-or (not (eqb (lineStart b n) (lineCount b))) (not (eqb (nameStart b n) (nameBytes b))) (ap not (eq-eqb _ _ (lines-before b n ∙ l .lastLine))) (ap not (eq-eqb _ _ (names-before b n ∙ l .lastName)))),
-                              (repeated-not (sourcesOf b) (h .once), tt),
-                            ),
-                          ),
-                        ),
-                      ),
-                    ),
-                  ),
-                ),
-              ),
-            ),
-          ),
-        ),
-      ),
-    )
+    passes-each (registerTests b)
+    (if-passed (ltb (length b) sourcesAt) 1 0 (le-ltb (length b) sourcesAt (l .long))
+    & if-passed (not (startsWith registerTag b)) 2 0 (ap not (taken-starts registerTag b (l .tag)))
+    & differs (numberAt 2 b 4) registerLayout 2 4 (l .layout)
+    & if-passed (not (isYear (yearOf b))) 2 6 (ap not (true-and (leb 1990 (yearOf b)) (leb (yearOf b) 2100) (le-leb _ _ (l .year .0)) (le-leb _ _ (l .year .1))))
+    & within-most mostSources n 2 8 (l .sources)
+    & within-most mostLines (lineCount b) 2 10 (l .lines)
+    & within-most mostNameBytes (nameBytes b) 2 12 (l .names)
+    & differs (numberAt 4 b 16) sourcesAt 2 16 (l .atSources)
+    & differs (numberAt 4 b 20) (linesAt n) 2 20 (l .atLines)
+    & differs (numberAt 4 b 24) (namesAt n (lineCount b)) 2 24 (l .atNames)
+    & differ (numberAt 4 b 28) whole (length b) whole 2 28 (l .whole) (l .filled)
+    & passed-at-all 3 (wrongSource b) n .1
+    (λ i m. false-or (misplaced b i) (unsound (sourceAt b i)) (not-misplaced b i (placed-standing b i (l .placed i m))) (h .sound i m))
+    & differ (lineStart b n) (lineCount b) (nameStart b n) (nameBytes b) 3 n (lines-before b n ∙ l .lastLine) (names-before b n ∙ l .lastName)
+    & repeated-not (sourcesOf b) (h .once)
+    & tt)

@@ -12,6 +12,7 @@ use Rattle.basis.specs.declared.Verdict.{Verdict}
 use Rattle.basis.specs.declared.Verdict.the-variants.{Passes}
 use Rattle.basis.specs.Bytes.{Bytes}
 use Rattle.basis.specs.Lists.{Each, any, without}
+use Rattle.basis.proofs.Lists.{_&_}
 use Rattle.basis.specs.Answers.{firstRefusal}
 use Rattle.basis.proofs.Bools.{clash, not-both}
 use Rattle.basis.proofs.Answers.{each-passes}
@@ -25,7 +26,7 @@ use Rattle.demands.specs.Demand1.{FromTable, Answers}
 use Rattle.demands.specs.Exactly.{Row, at, FirstOf, Exactly}
 use Rattle.demands.specs.Refusals.{NoReport, combinationRows, removalRows, checkRows, textLength, textRows}
 use Rattle.demands.proofs.Order.{ascending-distinct}
-use Rattle.demands.proofs.Exactly.{Decides, DecideAll, passes-nowhere, exactly, exactly-written, zero-passes, answers, answers-verdict, Numbered, room-decides}
+use Rattle.demands.proofs.Exactly.{_then_, Decides, DecideAll, passes-nowhere, exactly, exactly-written, zero-passes, answers, answers-verdict, Numbered, room-decides}
 use Rattle.demands.proofs.Reports.{length-report}
 use Rattle.meaning.proofs.Reports.{count-is}
 use Rattle.demands.proofs.ReportTests.{form-decides, passed-form, year-decides, made-of, has, absent-decides, shared-decides, passed-shared, entries-apart, both-make, count-decides, nowhere-at}
@@ -54,41 +55,26 @@ module _ (one other : List ℕ) (h : Bytes one) (g : Bytes other) where
       → DecideAll
       (combinationTests one other ++ (roomTest (combinedReport one other) report ∷ []))
       (combinationRows one other (length report))
-  combination-decides report = (
-    form-decides one 1 h,
-    λ p. (
-      form-decides other 2 g,
-      λ q. (
-        year-decides one other,
-        λ y. (
-          shared-decides one other h g (passed-form one 1 p) (passed-form other 2 q),
-          λ s. (
-            count-decides one other,
-            λ c.
-                (room-decides (combinedReport one other) report (reportLength (entryCount one + entryCount other)) (both-length p q s c), λ _. tt),
-          ),
-        ),
-      ),
-    ),
-  )
+  combination-decides report =
+      form-decides one 1 h
+      & (λ p. form-decides other 2 g
+      & (λ q. year-decides one other
+      then shared-decides one other h g (passed-form one 1 p) (passed-form other 2 q)
+      & (λ s. count-decides one other
+      & (λ c. room-decides (combinedReport one other) report (reportLength (entryCount one + entryCount other)) (both-length p q s c) then tt))))
 
   numbered-9-12 : (report : List ℕ) → Numbered (8 ∷ 9 ∷ 10 ∷ 11 ∷ 12 ∷ []) (combinationRows one other (length report))
   numbered-9-12 report =
       record {
         positive = omega arith;
-        among = (
-          λ n p r. inr (inl (r .0)),
-          (
-            λ n p r. inr (inl (r .0)),
-            (
-              λ n p r. inr (inr (inl (r .0))),
-              (
-                λ n p r. inr (inr (inr (inl (r .0)))),
-                (λ n p r. inr (inr (inr (inr (inl (r .0))))), (λ n p r. inl (r .0), tt)),
-              ),
-            ),
-          ),
-        );
+        among =
+            (λ n p r. inr (inl (r .0)))
+            & (λ n p r. inr (inl (r .0)))
+            & (λ n p r. inr (inr (inl (r .0))))
+            & (λ n p r. inr (inr (inr (inl (r .0)))))
+            & (λ n p r. inr (inr (inr (inr (inl (r .0))))))
+            & (λ n p r. inl (r .0))
+            & tt;
       }
 
   pub combination-exactly : (report : List ℕ)
@@ -189,18 +175,14 @@ module _ (report : List ℕ) (number : ℕ) (h : Bytes report) where
       ∙ ap reportLength (omega (arith, one, count-is report))
 
   removal-decides : (result : List ℕ) → DecideAll (removalTests report number ++ (roomTest (removedReport report number) result ∷ [])) (removalRows report number (length result))
-  removal-decides result = (
-    form-decides report 1 h,
-    λ p. (
-      absent-decides report number h (passed-form report 1 p),
-      λ a.
-          (room-decides (removedReport report number) result (reportLength (entryCount report - 1)) (rest-length p a), λ _. tt),
-    ),
-  )
+  removal-decides result =
+      form-decides report 1 h
+      & (λ p. absent-decides report number h (passed-form report 1 p)
+      & (λ a. room-decides (removedReport report number) result (reportLength (entryCount report - 1)) (rest-length p a) then tt))
 
   numbered-9-13 : (result : List ℕ) → Numbered (8 ∷ 9 ∷ 13 ∷ []) (removalRows report number (length result))
   numbered-9-13 result =
-      record { positive = omega arith; among = (λ n p r. inr (inl (r .0)), (λ n p r. inr (inr (inl (r .0))), (λ n p r. inl (r .0), tt))) }
+      record { positive = omega arith; among = (λ n p r. inr (inl (r .0))) & (λ n p r. inr (inr (inl (r .0)))) & (λ n p r. inl (r .0)) & tt }
 
   pub removal-exactly : (result : List ℕ)
       → Exactly (removalRows report number (length result)) (reportLength (entryCount report - 1)) (removed report number result .answer)
@@ -245,7 +227,7 @@ module _ (report : List ℕ) (h : Bytes report) where
   text-decides buffer = (form-decides report 1 h, λ p. (room-decides shown buffer (textLength report) refl, λ _. tt))
 
   numbered-8-9 : (buffer : List ℕ) → Numbered (8 ∷ 9 ∷ []) (textRows report (length buffer))
-  numbered-8-9 buffer = record { positive = omega arith; among = (λ n p r. inr (inl (r .0)), (λ n p r. inl (r .0), tt)) }
+  numbered-8-9 buffer = record { positive = omega arith; among = (λ n p r. inr (inl (r .0))) & (λ n p r. inl (r .0)) & tt }
 
   pub text-exactly : (buffer : List ℕ) → Exactly (textRows report (length buffer)) (textLength report) (text report buffer .answer)
   unfolding text
