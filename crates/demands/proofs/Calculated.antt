@@ -1,19 +1,19 @@
 -- What calculation makes of sources that nothing refuses, and that it refuses exactly when the table says. Assumes nothing.
 use mathlib.Core.Bool.{Bool, true, false, cond, _||_, _&&_, not}
 use mathlib.Core.List.{List, [], _∷_, _++_, map, append-assoc}
-use mathlib.Core.Logic.{inl, inr, ⊎-elim, _≢_}
+use mathlib.Core.Logic.{⊎-elim, _≢_}
 use mathlib.Core.Path.{_≡_, refl, sym, ap, _∙_}
 use Prim.Native.Nat.{ℕ, _+_, _*_, _^_, _≤_, _<_}
 use native.Mathlib.Omega.{arith}
 use lib.Dec.{eqb, ltb}
 use lib.ListN.{length, getD, length-map, List·getD-map}
-use borrow.Author.Tests.{ltb-false, eqb-true, le-ltb, eq-eqb, not-false}
+use borrow.Author.Tests.{ltb-false, eqb-true, eq-eqb, not-false}
 use Rattle.basis.specs.declared.Verdict.{Verdict}
 use Rattle.basis.specs.declared.Verdict.the-variants.{Passes}
 use Rattle.basis.specs.Bytes.{Bytes}
 use Rattle.basis.specs.Lists.{Each, countUp, any, joined}
 use Rattle.basis.specs.Answers.{firstRefusal}
-use Rattle.basis.proofs.Answers.{passed-at-first, passed-at-all, passed-then, if-passed, each-passes, passed-append, passes-each}
+use Rattle.basis.proofs.Answers.{passed-at-first, passed-at-all, passed-then, each-passes, passed-append, passes-each}
 use Rattle.basis.proofs.Lists.{_&_, length-countUp, length-sortedBy, each-at, at-each, each-map, sortedBy-each}
 use Rattle.basis.proofs.Bools.{clash, and-true, not-both, or-either}
 use Rattle.meaning.specs.declared.Decoded.the-variants.{Bad}
@@ -34,7 +34,8 @@ use Rattle.demands.proofs.Figures.{equivalent-is}
 use Rattle.demands.proofs.Order.{sorted-ascending}
 use Rattle.basis.proofs.Rows.{numberAt-fits, bytes-drop}
 use Rattle.demands.proofs.Among.{range-among}
-use Rattle.demands.proofs.Exactly.{decide-append, DecideAll, Numbered, exactly-written, zero-passes, answers, room-decides}
+use Rattle.demands.proofs.Compared.{room-decides, enough-room}
+use Rattle.demands.proofs.Exactly.{decide-append, DecideAll, Numbered, exactly-written, zero-passes, answers}
 use Rattle.demands.proofs.Reports.{length-report}
 use Rattle.demands.proofs.RegisterTests.{register-decides}
 use Rattle.demands.proofs.Registers.{sound-parts, Passed, passed, passing}
@@ -274,5 +275,5 @@ module _ (b : List ℕ) (h : Bytes b) where
       ∙ passes-each (later report)
       (good-lines (sourcesOf b) (each-map (λ s h. h .good) (sourcesOf b) c)
       & kept-sums (sourcesOf b) (each-map (λ s h. h .kept) (sourcesOf b) c)
-      & if-passed (ltb (length report) (length (calculatedReport b))) 8 (length (calculatedReport b)) (le-ltb (length report) (length (calculatedReport b)) (omega arith))
+      & enough-room (calculatedReport b) report (omega arith)
       & tt))

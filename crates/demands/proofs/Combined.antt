@@ -5,10 +5,9 @@ use mathlib.Core.Logic.{_≢_}
 use mathlib.Core.Path.{_≡_, refl, sym, ap, ap₂, subst, _∙_}
 use Prim.Native.Nat.{ℕ, _+_, _≤_}
 use native.Mathlib.Omega.{arith}
-use lib.Dec.{eqb, ltb}
 use lib.ListN.{length, getD, take, drop, length-append, length-map}
 use lib.Seq.{take-at}
-use borrow.Author.Tests.{le-ltb, eq-eqb, eqb-true}
+use borrow.Author.Tests.{eqb-true}
 use Rattle.basis.specs.declared.Verdict.{Verdict}
 use Rattle.basis.specs.declared.Verdict.the-variants.{Passes, Refuses}
 use Rattle.basis.specs.Bytes.{splice}
@@ -26,6 +25,7 @@ use Rattle.demands.specs.Refusals.{InBoth}
 use Rattle.demands.specs.Trees.{Tree, leaves, wrote, Accepted, result, EachAccepted, Room}
 use Rattle.basis.proofs.Counting.{any-some}
 use Rattle.basis.proofs.Answers.{passes-each, if-passed}
+use Rattle.demands.proofs.Compared.{equal-passes, within-passes, enough-room}
 use Rattle.demands.proofs.Exactly.{Decides}
 use Rattle.demands.proofs.Reports.{year-back, count-back, entries-back, report-right, report-bytes, length-report}
 use Rattle.demands.proofs.ReportTests.{has, shared-decides, both-make}
@@ -48,9 +48,6 @@ accepted-written tests made buffer e =
 pub nowhere-passes : (v : Verdict) (row : Row) → Decides v row → Nowhere row → v ≡ Passes
 nowhere-passes Passes row d n = refl
 nowhere-passes (Refuses m q) row d n = absurd (n m q (d m q .0 refl))
-
-pub enough-room : (made buffer : List ℕ) → length made ≤ length buffer → roomTest made buffer ≡ Passes
-enough-room made buffer l = if-passed (ltb (length buffer) (length made)) 8 (length made) (le-ltb (length buffer) (length made) l)
 
 module _ (y : ℕ) (xs zs : List Entry) (v : Reportable y xs) (w : Reportable y zs) where
   pub apart-nowhere : Each (λ x. Each (λ z. entryNumber x ≢ entryNumber z) zs) xs → (p : ℕ) → InBoth (reportBytes y xs) (reportBytes y zs) p → ⊥
@@ -79,11 +76,11 @@ module _ (y : ℕ) (xs zs : List Entry) (v : Reportable y xs) (w : Reportable y 
       (passes-each (combinationTests one other ++ (roomTest made buffer ∷ []))
       (if-passed (not (wellFormed one)) 9 1 (ap not (report-right y xs v))
       & if-passed (not (wellFormed other)) 9 2 (ap not (report-right y zs w))
-      & if-passed (not (eqb (reportYear one) (reportYear other))) 10 0 (ap not (eq-eqb (reportYear one) (reportYear other) (year-back y xs v ∙ sym (year-back y zs w))))
+      & equal-passes (reportYear one) (reportYear other) 10 0 (year-back y xs v ∙ sym (year-back y zs w))
       & nowhere-passes (sharedTest one other) _
       (shared-decides one other (report-bytes y xs v) (report-bytes y zs w) (report-right y xs v) (report-right y zs w))
       (λ m q t. apart-nowhere a q (t .1))
-      & if-passed (ltb mostSources (entryCount one + entryCount other)) 12 (entryCount one + entryCount other) (le-ltb mostSources (entryCount one + entryCount other) few)
+      & within-passes mostSources (entryCount one + entryCount other) 12 (entryCount one + entryCount other) few
       & enough-room made buffer (omega arith)
       & tt)) in
       (r .0, r .1 ∙ is)

@@ -7,7 +7,7 @@ use Prim.Native.Nat.{ℕ, _<_}
 use native.Mathlib.Omega.{arith}
 use lib.Dec.{ltb}
 use lib.ListN.{length}
-use borrow.Author.Tests.{ltb-true, ltb-false, lt-ltb}
+use borrow.Author.Tests.{ltb-false}
 use Rattle.basis.specs.Bytes.{splice}
 use Rattle.basis.specs.Lists.{Each}
 use Rattle.basis.specs.declared.Answer.{Answer}
@@ -188,8 +188,3 @@ pub length-written : (tests : List Verdict) (made buffer : List ℕ) → firstRe
     → written tests made buffer .answer .length ≡ length made
 unfolding written settled
 length-written tests made buffer e = ap (λ (v : Verdict). settled v made buffer .answer .length) e
-
--- 8
-pub room-decides : (made buffer : List ℕ) (n : ℕ) → length made ≡ n → Decides (roomTest made buffer) (at 8 n (length buffer < n))
-room-decides made buffer n e =
-    rw e (decide-if (ltb (length buffer) n) 8 n (length buffer < n) (ltb-true (length buffer) n) (λ t l. clash (lt-ltb (length buffer) n l) t))

@@ -8,6 +8,7 @@ pub mod WrongSource
 pub mod Decimals
 pub mod Order
 pub mod Exactly
+pub mod Compared
 pub mod Reports
 pub mod WellFormed
 pub mod Holds

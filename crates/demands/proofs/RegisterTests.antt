@@ -1,16 +1,16 @@
 -- The tests 1 to 4 of a register decide their rows. Assumes nothing.
-use mathlib.Core.Bool.{Bool, true, false, _||_, _&&_, not}
+use mathlib.Core.Bool.{Bool, true, false, _&&_, not}
 use mathlib.Core.List.{List, [], _∷_}
 use mathlib.Core.Logic.{_⊎_, inl, inr, ⊎-elim, _≢_}
 use mathlib.Core.Path.{_≡_, refl, sym, _∙_}
 use Prim.Native.Nat.{ℕ, _<_}
 use native.Mathlib.Omega.{arith}
-use lib.Dec.{eqb, ltb, leb}
+use lib.Dec.{ltb, leb}
 use lib.ListN.{length, take}
-use borrow.Author.Tests.{ltb-true, leb-false, eqb-true, eqb-false, lt-ltb, lt-leb, not-true, not-false}
+use borrow.Author.Tests.{ltb-true, leb-false, lt-ltb, lt-leb, not-true, not-false}
 use Rattle.basis.specs.Bytes.{numberAt, ascii, startsWith}
 use Rattle.basis.specs.Answers.{refuseIf, refuseAtFirst}
-use Rattle.basis.proofs.Bools.{clash, and-true, or-false, or-either}
+use Rattle.basis.proofs.Bools.{clash, and-true}
 use Rattle.meaning.specs.Register.{registerTag, registerLayout, yearOf, isYear, sourceCount, mostSources, lineCount, mostLines, nameBytes, mostNameBytes, sourcesAt, linesAt, namesAt, wholeLength, headerTests, sourcesOf, wrongSource, sourceTest, restTest, repeats, repeatTest, registerTests}
 use Rattle.meaning.proofs.Registers.{right-header}
 use Rattle.meaning.proofs.Sources.{sourceNumbers, length-numbers, number-at, repeats-some, some-repeats}
@@ -20,22 +20,8 @@ use Rattle.basis.proofs.Rows.{starts-tag, taken-starts}
 use Rattle.demands.specs.Fields.{linesBefore, namesBefore}
 use Rattle.demands.proofs.Figures.{lines-before, names-before}
 use Rattle.demands.proofs.WrongSource.{wrong-then, then-wrong}
+use Rattle.demands.proofs.Compared.{decide-is, decide-above, decide-either}
 use Rattle.demands.proofs.Exactly.{_then_, Decides, DecideAll, decide-if, decide-first, decide-append}
-
--- a test that a number is the one laid down; that it is not above a limit
-decide-is : (a b number place : ℕ) → Decides (refuseIf (not (eqb a b)) number place) (at number place (a ≢ b))
-decide-is a b number place =
-    decide-if (not (eqb a b)) number place (a ≢ b) (λ e. eqb-false a b (not-true (eqb a b) e)) (λ e f. f (eqb-true a b (not-false (eqb a b) e)))
-
-decide-above : (most a number place : ℕ) → Decides (refuseIf (ltb most a) number place) (at number place (most < a))
-decide-above most a number place = decide-if (ltb most a) number place (most < a) (ltb-true most a) (λ e l. clash (lt-ltb most a l) e)
-
-decide-either : (a b c d number place : ℕ) → Decides (refuseIf (not (eqb a b) || not (eqb c d)) number place) (at number place ((a ≢ b) ⊎ (c ≢ d)))
-decide-either a b c d number place =
-    decide-if (not (eqb a b) || not (eqb c d)) number place ((a ≢ b) ⊎ (c ≢ d))
-    (λ e. ⊎-elim (λ h. inl (eqb-false a b (not-true (eqb a b) h))) (λ h. inr (eqb-false c d (not-true (eqb c d) h))) (or-either (not (eqb a b)) (not (eqb c d)) e))
-    (λ e. let h = or-false (not (eqb a b)) (not (eqb c d)) e in
-    ⊎-elim (λ f. f (eqb-true a b (not-false (eqb a b) (h .0)))) (λ f. f (eqb-true c d (not-false (eqb c d) (h .1)))))
 
 year-decides : (y : ℕ) → Decides (refuseIf (not (isYear y)) 2 6) (at 2 6 ((y < 1990) ⊎ (2100 < y)))
 year-decides y =

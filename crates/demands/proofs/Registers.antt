@@ -1,18 +1,18 @@
 -- A register that passes 1 to 4 is laid right, its sources are sound, and no number stands twice; and the other way round. Assumes nothing.
-use mathlib.Core.Bool.{true, false, _||_, not}
+use mathlib.Core.Bool.{true, false, not}
 use mathlib.Core.List.{List, [], _∷_, map}
 use mathlib.Core.Logic.{_≢_}
 use mathlib.Core.Path.{_≡_, sym, ap, _∙_}
 use Prim.Native.Nat.{ℕ, zero, suc, _≤_, _<_, zero-le, suc-le-suc}
 use native.Mathlib.Nat.{not-suc-le-zero, le-of-suc-le-suc}
 use native.Mathlib.Omega.{arith}
-use lib.Dec.{eqb, ltb, leb}
+use lib.Dec.{leb}
 use lib.ListN.{length, getD, length-map, List·getD-map}
-use borrow.Author.Tests.{leb-true, eqb-false, le-ltb, le-leb, eq-eqb, not-false}
+use borrow.Author.Tests.{leb-true, eqb-false, le-leb, not-false}
 use Rattle.basis.proofs.Lists.{_&_, each-at, at-each}
 use Rattle.basis.specs.declared.Verdict.the-variants.{Passes}
 use Rattle.basis.specs.Bytes.{numberAt, startsWith}
-use Rattle.basis.specs.Answers.{refuseIf, firstRefusal}
+use Rattle.basis.specs.Answers.{firstRefusal}
 use Rattle.basis.proofs.Answers.{passed-at-all, passes-each, if-passed}
 use Rattle.basis.proofs.Bools.{clash, and-true, true-and, or-false, false-or, not-both}
 use Rattle.meaning.specs.Methods.{listed}
@@ -21,6 +21,7 @@ use Rattle.meaning.proofs.Registers.{right-register}
 use Rattle.meaning.proofs.Sources.{placed as standing, noSource, sourceNumber, repeats-some, some-repeats}
 use Rattle.demands.specs.Valid.{Distinct, LaidRight}
 use Rattle.basis.proofs.Rows.{starts-tag, taken-starts}
+use Rattle.demands.proofs.Compared.{equal-passes, within-passes, both-equal-pass}
 use Rattle.demands.proofs.Figures.{lines-before, names-before, standing-placed, placed-standing, not-misplaced}
 
 -- different keys, by index
@@ -109,16 +110,6 @@ passed b e =
     }
 
 -- and what makes it pass
-differs : (a b n p : ℕ) → a ≡ b → refuseIf (not (eqb a b)) n p ≡ Passes
-differs a b n p e = if-passed (not (eqb a b)) n p (ap not (eq-eqb a b e))
-
-differ : (a b c d n p : ℕ) → a ≡ b → c ≡ d → refuseIf (not (eqb a b) || not (eqb c d)) n p ≡ Passes
-differ a b c d n p e f =
-    if-passed (not (eqb a b) || not (eqb c d)) n p (false-or (not (eqb a b)) (not (eqb c d)) (ap not (eq-eqb a b e)) (ap not (eq-eqb c d f)))
-
-within-most : (most a n p : ℕ) → a ≤ most → refuseIf (ltb most a) n p ≡ Passes
-within-most most a n p l = if-passed (ltb most a) n p (le-ltb most a l)
-
 pub passing : (b : List ℕ) → Passed b → firstRefusal (registerTests b) ≡ Passes
 unfolding registerTests headerTests sourceTest restTest wrongSource
 passing b h =
@@ -126,19 +117,19 @@ passing b h =
     let n = sourceCount b in
     let whole = wholeLength n (lineCount b) (nameBytes b) in
     passes-each (registerTests b)
-    (if-passed (ltb (length b) sourcesAt) 1 0 (le-ltb (length b) sourcesAt (l .long))
+    (within-passes (length b) sourcesAt 1 0 (l .long)
     & if-passed (not (startsWith registerTag b)) 2 0 (ap not (taken-starts registerTag b (l .tag)))
-    & differs (numberAt 2 b 4) registerLayout 2 4 (l .layout)
+    & equal-passes (numberAt 2 b 4) registerLayout 2 4 (l .layout)
     & if-passed (not (isYear (yearOf b))) 2 6 (ap not (true-and (leb 1990 (yearOf b)) (leb (yearOf b) 2100) (le-leb _ _ (l .year .0)) (le-leb _ _ (l .year .1))))
-    & within-most mostSources n 2 8 (l .sources)
-    & within-most mostLines (lineCount b) 2 10 (l .lines)
-    & within-most mostNameBytes (nameBytes b) 2 12 (l .names)
-    & differs (numberAt 4 b 16) sourcesAt 2 16 (l .atSources)
-    & differs (numberAt 4 b 20) (linesAt n) 2 20 (l .atLines)
-    & differs (numberAt 4 b 24) (namesAt n (lineCount b)) 2 24 (l .atNames)
-    & differ (numberAt 4 b 28) whole (length b) whole 2 28 (l .whole) (l .filled)
+    & within-passes mostSources n 2 8 (l .sources)
+    & within-passes mostLines (lineCount b) 2 10 (l .lines)
+    & within-passes mostNameBytes (nameBytes b) 2 12 (l .names)
+    & equal-passes (numberAt 4 b 16) sourcesAt 2 16 (l .atSources)
+    & equal-passes (numberAt 4 b 20) (linesAt n) 2 20 (l .atLines)
+    & equal-passes (numberAt 4 b 24) (namesAt n (lineCount b)) 2 24 (l .atNames)
+    & both-equal-pass (numberAt 4 b 28) whole (length b) whole 2 28 (l .whole) (l .filled)
     & passed-at-all 3 (wrongSource b) n .1
     (λ i m. false-or (misplaced b i) (unsound (sourceAt b i)) (not-misplaced b i (placed-standing b i (l .placed i m))) (h .sound i m))
-    & differ (lineStart b n) (lineCount b) (nameStart b n) (nameBytes b) 3 n (lines-before b n ∙ l .lastLine) (names-before b n ∙ l .lastName)
+    & both-equal-pass (lineStart b n) (lineCount b) (nameStart b n) (nameBytes b) 3 n (lines-before b n ∙ l .lastLine) (names-before b n ∙ l .lastName)
     & repeated-not (sourcesOf b) (h .once)
     & tt)

@@ -8,7 +8,7 @@ use native.Mathlib.Nat.{not-suc-le-zero, le-of-suc-le-suc}
 use native.Mathlib.Omega.{arith}
 use lib.ListN.{length, getD}
 use borrow.Author.Tests.{eq-eqb, ne-eqb}
-use Rattle.basis.proofs.Lists.{each-at}
+use Rattle.basis.proofs.Lists.{_&_, each-at}
 use Rattle.basis.specs.Lists.{Each, any, without}
 use Rattle.meaning.specs.Report.{Entry, inOrder, reportBytes, reportLength, reportYear, entryCount, entriesOf, wellFormed}
 use Rattle.meaning.specs.Calls.{roomTest, numbered, removed, removalTests}
@@ -22,7 +22,8 @@ use Rattle.demands.proofs.Reports.{year-back, count-back, entries-back,
 use Rattle.meaning.proofs.Reports.{formed}
 use Rattle.demands.proofs.WellFormed.{reportable, report-again}
 use Rattle.demands.proofs.ReportCalls.{without-make, without-absent, without-one}
-use Rattle.demands.proofs.Combined.{accepted-written, enough-room, apart, combined-writes}
+use Rattle.demands.proofs.Compared.{enough-room}
+use Rattle.demands.proofs.Combined.{accepted-written, apart, combined-writes}
 
 pub good-made : (b : List ℕ) → GoodReport b → Reportable (reportYear b) (entriesOf b) × (reportBytes (reportYear b) (entriesOf b) ≡ b)
 good-made b g = let f = formed b (g .formed) in (reportable b (g .bytes) f, report-again b (g .bytes) f)
@@ -81,10 +82,11 @@ removed-writes y x es v h result o =
     let there : any (numbered x) (entriesOf b) ≡ true = ap (any (numbered x)) (entries-back y es v) ∙ h in
     let r =
     accepted-written (removalTests b x) made result
-    (passes-each (removalTests b x ++ (roomTest made result ∷ [])) (
-      if-passed (not (wellFormed b)) 9 1 (ap not (report-right y es v)),
-      (if-passed (not (any (numbered x) (entriesOf b))) 13 x (ap not there), (enough-room made result (omega arith), tt)),
-    )) in
+    (passes-each (removalTests b x ++ (roomTest made result ∷ []))
+    (if-passed (not (wellFormed b)) 9 1 (ap not (report-right y es v))
+    & if-passed (not (any (numbered x) (entriesOf b))) 13 x (ap not there)
+    & enough-room made result (omega arith)
+    & tt)) in
     (r .0, r .1 ∙ is)
 
 -- on lists of entries: what is removed and combined again

@@ -26,7 +26,8 @@ use Rattle.demands.specs.Demand1.{FromTable, Answers}
 use Rattle.demands.specs.Exactly.{Row, at, FirstOf, Exactly}
 use Rattle.demands.specs.Refusals.{NoReport, combinationRows, removalRows, checkRows, textLength, textRows}
 use Rattle.demands.proofs.Order.{ascending-distinct}
-use Rattle.demands.proofs.Exactly.{_then_, Decides, DecideAll, passes-nowhere, exactly, exactly-written, zero-passes, answers, answers-verdict, Numbered, room-decides}
+use Rattle.demands.proofs.Compared.{room-decides}
+use Rattle.demands.proofs.Exactly.{_then_, Decides, DecideAll, passes-nowhere, exactly, exactly-written, zero-passes, answers, answers-verdict, Numbered}
 use Rattle.demands.proofs.Reports.{length-report}
 use Rattle.meaning.proofs.Reports.{count-is}
 use Rattle.demands.proofs.ReportTests.{form-decides, passed-form, year-decides, made-of, has, absent-decides, shared-decides, passed-shared, entries-apart, both-make, count-decides, nowhere-at}

@@ -6,9 +6,9 @@ use mathlib.Core.Path.{_≡_, refl, sym, ap, subst, _∙_}
 use Prim.Native.Nat.{ℕ, _+_, _≤_, _<_}
 use native.Mathlib.Omega.{arith}
 use native.Mathlib.Decide.{decLt}
-use lib.Dec.{eqb, ltb}
+use lib.Dec.{eqb}
 use lib.ListN.{length, getD, length-map, length-append, List·getD-map}
-use borrow.Author.Tests.{ltb-true, eqb-true, eqb-false, lt-ltb, eq-eqb, not-true, not-false}
+use borrow.Author.Tests.{eqb-true, eq-eqb, not-true, not-false}
 use Rattle.basis.specs.declared.Verdict.the-variants.{Passes}
 use Rattle.basis.specs.Bytes.{numberAt, Bytes}
 use Rattle.basis.specs.Lists.{Each, stands, any}
@@ -24,6 +24,7 @@ use Rattle.demands.specs.Exactly.{Nowhere, at}
 use Rattle.demands.specs.Refusals.{NoReport, HasNumber, InBoth}
 use Rattle.basis.proofs.Counting.{any-some, some-any, any-map}
 use Rattle.demands.proofs.Order.{ascending-each, ascending-distinct, ascending-lt, sorted-ascending, distinct-append}
+use Rattle.demands.proofs.Compared.{decide-is, decide-above}
 use Rattle.demands.proofs.Exactly.{Decides, decide-if}
 use Rattle.demands.proofs.Reports.{report-right}
 use Rattle.demands.proofs.Holds.{is-report, written-again}
@@ -52,9 +53,7 @@ passed-form b which e = by (wellFormed b) refl e
 
 -- 10
 pub year-decides : (one other : List ℕ) → Decides (yearTest one other) (at 10 0 (reportYear one ≢ reportYear other))
-year-decides one other =
-    decide-if (not (eqb (reportYear one) (reportYear other))) 10 0 (reportYear one ≢ reportYear other)
-    (λ e. eqb-false _ _ (not-true _ e)) (λ e f. f (eqb-true _ _ (not-false _ e)))
+year-decides one other = decide-is (reportYear one) (reportYear other) 10 0
 
 -- the numbers of a report: by index, and, where it is well-formed, ascending
 number-at : (b : List ℕ) (i : ℕ) → i < entryCount b → getD (entriesOf b) i noEntry .number ≡ numberAt 4 (entryAt b i) 0
@@ -187,9 +186,7 @@ both-make xs zs v w a l =
 
 -- 12
 pub count-decides : (one other : List ℕ) → Decides (countTest one other) (at 12 (entryCount one + entryCount other) (mostSources < entryCount one + entryCount other))
-count-decides one other =
-    let n = entryCount one + entryCount other in
-    decide-if (ltb mostSources n) 12 n (mostSources < n) (ltb-true mostSources n) (λ t l. clash (lt-ltb mostSources n l) t)
+count-decides one other = let n = entryCount one + entryCount other in decide-above mostSources n 12 n
 
 pub nowhere-at : {number place : ℕ} {C : Type 0} → Nowhere (at number place C) → C → ⊥
 nowhere-at {number} {place} h c = h number place (refl, refl, c)
