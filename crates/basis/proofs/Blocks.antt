@@ -5,11 +5,10 @@ use Prim.Native.Nat.{ℕ, zero, suc, _+_, _-_, _≤_, _<_}
 use native.Mathlib.Decide.{decLt}
 use native.Mathlib.Nat.{add-zero, zero-add}
 use native.Mathlib.Omega.{arith}
-use lib.ListN.{length, getD, length-append, length-map, List·getD-append}
+use lib.ListN.{length, getD, length-append, List·getD-append}
 use lib.Seq.{getD-append-add}
 use Rattle.basis.specs.Lists.{countUp, joined}
-use Rattle.basis.proofs.Lists.{length-countUp}
-use Rattle.basis.proofs.Counting.{getD-counted}
+use Rattle.basis.proofs.Counting.{length-counted, getD-counted}
 
 module _ {A : Type 0} (f : ℕ → List A) (s c : ℕ → ℕ) (g : ℕ → ℕ → A) where
   -- block i holds what stands at the c i places from s i on, and the next begins where it ends
@@ -21,7 +20,7 @@ module _ {A : Type 0} (f : ℕ → List A) (s c : ℕ → ℕ) (g : ℕ → ℕ 
   Blocks a k = (i : ℕ) → a ≤ i → i < a + k → Block i
 
   length-block : (i : ℕ) → Block i → length (f i) ≡ c i
-  length-block i b = ap length (b .is) ∙ length-map (countUp (s i) (c i)) (g i) ∙ length-countUp (s i) (c i)
+  length-block i b = ap length (b .is) ∙ length-counted (g i) (s i) (c i)
 
   later : (a k : ℕ) → Blocks a (suc k) → Blocks (a + 1) k
   later a k b i l m = b i (omega arith) (omega arith)

@@ -6,8 +6,9 @@ use Prim.Native.Nat.{ℕ, zero, suc, _+_, _*_, _≤_, _<_, zero-le, suc-le-suc}
 use native.Mathlib.Decide.{decLt}
 use native.Mathlib.Nat.{add-zero, zero-add, not-suc-le-zero, le-of-suc-le-suc}
 use native.Mathlib.Omega.{arith}
-use lib.ListN.{length, getD, take, replicate}
+use lib.ListN.{length, getD, take, replicate, length-map}
 use Rattle.basis.specs.Lists.{Each, sum, countUp, any}
+use Rattle.basis.proofs.Lists.{length-countUp}
 use Rattle.basis.proofs.Bools.{clash, or-true, or-false, false-or}
 
 -- none of the numbers counted up has the test
@@ -28,12 +29,18 @@ counted-none test (suc n) j e i l g =
     by (yes q) h later = later q
     by (no q) h later = let f : i ≡ j = omega arith in rw f h
 
--- what counting up makes, at an index
+-- what counting up makes: how many, and which at an index
+pub length-counted : {A : Type 0} (f : ℕ → A) (j n : ℕ) → length (map f (countUp j n)) ≡ n
+length-counted f j n = length-map (countUp j n) f ∙ length-countUp j n
+
 pub getD-counted : {A : Type 0} (f : ℕ → A) (d : A) (n j i : ℕ) → i < n → getD (map f (countUp j n)) i d ≡ f (j + i)
 unfolding countUp
 getD-counted f d zero j i l = absurd (not-suc-le-zero l)
 getD-counted f d (suc n) j zero l = ap f (omega arith)
 getD-counted f d (suc n) j (suc i) l = getD-counted f d n (j + 1) i (le-of-suc-le-suc l) ∙ ap f (omega arith)
+
+pub at-counted : {A : Type 0} (f : ℕ → A) (d : A) (n i : ℕ) → i < n → getD (map f (countUp 0 n)) i d ≡ f i
+at-counted f d n i l = getD-counted f d n 0 i l ∙ ap f (zero-add i)
 
 -- counting up goes on where it stopped
 pub counted-append : {A : Type 0} (f : ℕ → A) (x p q : ℕ) → map f (countUp x (p + q)) ≡ map f (countUp x p) ++ map f (countUp (x + p) q)
@@ -58,6 +65,9 @@ counted-list f d (x ∷ xs) j h =
     let e : f j ≡ x = ap f (sym (add-zero j)) ∙ h 0 (suc-le-suc zero-le) in
     let q : (i : ℕ) → j + 1 + i ≡ j + suc i = λ i. omega arith in
     rw (e, counted-list f d xs (j + 1) (λ i l. ap f (q i) ∙ h (suc i) (suc-le-suc l)))
+
+pub counted-all : {A : Type 0} (f : ℕ → A) (d : A) (xs : List A) → ((i : ℕ) → i < length xs → f i ≡ getD xs i d) → map f (countUp 0 (length xs)) ≡ xs
+counted-all f d xs h = counted-list f d xs 0 (λ i l. ap f (zero-add i) ∙ h i l)
 
 pub sum-widths : (w n k : ℕ) → k ≤ n → sum (take k (replicate n w)) ≡ w * k
 unfolding sum

@@ -14,14 +14,17 @@ use Rattle.meaning.proofs.Sources.{Placed as Standing}
 use Rattle.demands.specs.Fields.{linesBefore, namesBefore}
 use Rattle.demands.specs.Valid.{equivalentOf, Placed}
 
--- three masses, weighed
+-- three masses, by index and weighed
+pub three-masses : (ms : List ℕ) → length ms ≡ 3 → (getD ms 0 0 ∷ getD ms 1 0 ∷ getD ms 2 0 ∷ []) ≡ ms
+three-masses [] e = absurd (omega arith)
+three-masses (x ∷ []) e = absurd (omega arith)
+three-masses (x ∷ y ∷ []) e = absurd (omega arith)
+three-masses (x ∷ y ∷ z ∷ []) e = refl
+three-masses (x ∷ y ∷ z ∷ u ∷ ms) e = absurd (omega arith)
+
 pub weighed-three : (ms : List ℕ) → length ms ≡ 3 → equivalent ms ≡ getD ms 0 0 + 25 * getD ms 1 0 + 298 * getD ms 2 0
 unfolding equivalent weighed
-weighed-three [] e = absurd (omega arith)
-weighed-three (x ∷ []) e = absurd (omega arith)
-weighed-three (x ∷ y ∷ []) e = absurd (omega arith)
-weighed-three (x ∷ y ∷ z ∷ []) e = omega arith
-weighed-three (x ∷ y ∷ z ∷ u ∷ ms) e = absurd (omega arith)
+weighed-three ms e = ap equivalent (sym (three-masses ms e)) ∙ omega arith
 
 pub equivalent-is : (e : Entry) → length (e .masses) ≡ 3 → equivalent (e .masses) ≡ equivalentOf e
 equivalent-is e l = weighed-three (e .masses) l

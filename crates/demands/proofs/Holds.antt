@@ -2,21 +2,20 @@
 use mathlib.Core.List.{List, [], _∷_, map}
 use mathlib.Core.Path.{_≡_, refl, sym, ap, ap₂, _∙_}
 use Prim.Native.Nat.{ℕ, zero, suc, _+_, _<_}
-use native.Mathlib.Nat.{zero-add}
 use native.Mathlib.Omega.{arith}
 use lib.ListN.{length, getD, List·getD-append}
 use lib.Seq.{getD-append-seam}
 use Rattle.basis.specs.Bytes.{numberAt}
 use Rattle.basis.specs.Lists.{Each, sum, countUp}
 use Rattle.basis.proofs.Lists.{each-at}
-use Rattle.basis.proofs.Counting.{counted-list}
+use Rattle.basis.proofs.Counting.{counted-all}
 use Rattle.basis.proofs.Rows.{taken-starts}
 use Rattle.meaning.specs.Masses.{equivalent}
 use Rattle.meaning.specs.Report.{Entry, figures, figure, figureCount, totals, reportTag, reportHeader, reportBytes, entryCount, totalAt, entryAt, entryIn, entriesOf, numberBefore}
 use Rattle.meaning.proofs.Reports.{Headed, RightEntry, Formed, total-is}
 use Rattle.demands.specs.Table.{CO2, CH4, N2O}
 use Rattle.demands.specs.Valid.{massOf, equivalentOf, Entered, Reportable, HoldsEntry, noEntry, Holds, IsReport}
-use Rattle.demands.proofs.Figures.{equivalent-is}
+use Rattle.demands.proofs.Figures.{three-masses, equivalent-is}
 use Rattle.demands.proofs.Reports.{equivalent-within, prior, ascending-at, header-at, total-at, year-back, count-back, row-is, entry-is, zeros-at, equivalent-at, length-report, report-bytes}
 use Rattle.demands.proofs.WellFormed.{report-again}
 
@@ -33,13 +32,6 @@ pub sum-same : {A : Type 0} (P : A → Type 0) (f g : A → ℕ) → ((x : A) �
 unfolding sum
 sum-same P f g h [] p = refl
 sum-same P f g h (x ∷ xs) p = ap₂ _+_ (h x (p .0)) (sum-same P f g h xs (p .1))
-
-pub three-masses : (ms : List ℕ) → length ms ≡ 3 → (getD ms 0 0 ∷ getD ms 1 0 ∷ getD ms 2 0 ∷ []) ≡ ms
-three-masses [] e = absurd (omega arith)
-three-masses (x ∷ []) e = absurd (omega arith)
-three-masses (x ∷ y ∷ []) e = absurd (omega arith)
-three-masses (x ∷ y ∷ z ∷ []) e = refl
-three-masses (x ∷ y ∷ z ∷ u ∷ ms) e = absurd (omega arith)
 
 -- what is written holds its fields
 module _ (y : ℕ) (es : List Entry) (v : Reportable y es) where
@@ -113,7 +105,7 @@ module _ (b : List ℕ) (y : ℕ) (es : List Entry) (report : IsReport b y es) w
   pub entries-held : entriesOf b ≡ es
   unfolding entriesOf
   entries-held =
-      rw (h .count) (counted-list (λ i. entryIn (entryAt b i)) noEntry es 0 (λ i l. ap (λ (k : ℕ). entryIn (entryAt b k)) (zero-add i) ∙ read-at i l))
+      rw (h .count) (counted-all (λ i. entryIn (entryAt b i)) noEntry es read-at)
 
   before-held : (i : ℕ) → i < length es → numberBefore b i ≡ prior 0 es i
   unfolding numberBefore

@@ -5,17 +5,16 @@ use Prim.Native.Nat.{ℕ, zero, suc, _+_, _*_, _^_, _≤_, _<_}
 use native.Mathlib.Nat.{add-zero, zero-add, add-assoc}
 use native.Mathlib.Numerals.{add-one}
 use native.Mathlib.Omega.{arith}
-use lib.ListN.{length, take, drop, length-drop, length-map}
+use lib.ListN.{length, take, drop, length-drop}
 use lib.Seq.{drop-drop, take-add, take-all, length-take-le}
 use Rattle.basis.specs.Bytes.{numberAt, packed, Bytes}
 use Rattle.basis.specs.Lists.{Each, sum, countUp, joined}
-use Rattle.basis.proofs.Lists.{length-countUp}
 use Rattle.meaning.specs.declared.RawLine.{RawLine}
 use Rattle.meaning.specs.Register.{yearOf, sourceCount, lineCount, nameBytes, sourceLength, lineLength, sourcesAt, linesAt, namesAt, wholeLength, lineOf, lineAt, sourceEntry, firstLineIn, lineCountIn, nameLengthIn, namePlace, sourceAt, sourcesOf, lineStart, nameStart, lineBytes, sourceEntries, registerHeader, encode}
 use Rattle.meaning.proofs.Sources.{length-sources}
 use Rattle.demands.specs.Valid.{LaidRight, LineFits, SourceFits, Encodable}
 use Rattle.basis.proofs.Rows.{numberAt-drop, numberAt-fits, unpacked, packed-unpacked, bytes-drop, bytes-take, write-rows}
-use Rattle.basis.proofs.Counting.{counted-append}
+use Rattle.basis.proofs.Counting.{length-counted, counted-append}
 use Rattle.demands.proofs.Calculation.{standing, last-line, last-name, following}
 use Rattle.meaning.proofs.Lines.{next-line}
 use Rattle.demands.proofs.EncodedEntries.{lineWidths, lineNumbers, rowsOf, linesOf, namesOf, entryWidths, entryNumbers}
@@ -63,9 +62,7 @@ module _ (b : List ℕ) (h : Bytes b) (v : LaidRight b) where
 
   length-lines-at : (i : ℕ) → length (sourceAt b i .lines) ≡ lineCountIn (sourceEntry b i)
   unfolding sourceAt
-  length-lines-at i =
-      let r = sourceEntry b i in
-      length-map (countUp (firstLineIn r) (lineCountIn r)) (lineAt b) ∙ length-countUp (firstLineIn r) (lineCountIn r)
+  length-lines-at i = let r = sourceEntry b i in length-counted (lineAt b) (firstLineIn r) (lineCountIn r)
 
   length-name-at : (i : ℕ) → i < sourceCount b → length (sourceAt b i .name) ≡ nameLengthIn (sourceEntry b i)
   unfolding sourceAt
@@ -133,7 +130,7 @@ module _ (b : List ℕ) (h : Bytes b) (v : LaidRight b) where
       ∙ ap (λ (x : ℕ). take (nameBytes b) (drop x b)) (add-zero (namesAt (sourceCount b) (lineCount b)))
 
   length-lines : length (linesOf (sourcesOf b)) ≡ lineCount b
-  length-lines = ap length lines-of ∙ length-map (countUp 0 (lineCount b)) (lineAt b) ∙ length-countUp 0 (lineCount b)
+  length-lines = ap length lines-of ∙ length-counted (lineAt b) 0 (lineCount b)
 
   length-names : length (namesOf (sourcesOf b)) ≡ nameBytes b
   length-names =

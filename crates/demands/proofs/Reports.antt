@@ -3,7 +3,7 @@ use mathlib.Core.Bool.{true, false}
 use mathlib.Core.List.{List, [], _∷_, _++_, map, append-assoc, append-nil}
 use mathlib.Core.Path.{_≡_, refl, sym, ap, _∙_}
 use Prim.Native.Nat.{ℕ, zero, suc, _+_, _*_, _^_, _≤_, _<_, zero-le, suc-le-suc}
-use native.Mathlib.Nat.{zero-add, not-suc-le-zero, le-of-suc-le-suc, le-trans}
+use native.Mathlib.Nat.{not-suc-le-zero, le-of-suc-le-suc, le-trans}
 use native.Mathlib.Omega.{arith}
 use lib.Dec.{eqb, ltb, leb}
 use lib.ListN.{length, getD, take, drop, replicate, length-append, length-replicate, getD-replicate, List·getD-append}
@@ -19,7 +19,7 @@ use Rattle.meaning.specs.Report.{Entry, figures, figureCount, figure, totals, r
 use Rattle.meaning.proofs.Reports.{length-figures, figure-bounded, length-totals, total-is}
 use Rattle.demands.specs.Valid.{Entered, Ascending, entryNumber, noEntry, Reportable}
 use Rattle.demands.proofs.Figures.{equivalent-is}
-use Rattle.basis.proofs.Counting.{none-counted, counted-list, sum-widths, sum-bounded}
+use Rattle.basis.proofs.Counting.{counted-all, none-counted, sum-widths, sum-bounded}
 use Rattle.basis.proofs.Rows.{tag-starts, numberAt-behind, read-rows, row-at, length-rows, each-bytes, joined-bytes}
 
 -- Figures and totals. No figure of an entry is above the limit.
@@ -91,8 +91,8 @@ module _ (e : Entry) (v : Entered e) (rest : List ℕ) where
   unfolding figure figures
   masses-at =
       rw (v .gases) at
-      (counted-list (figureIn (entryBytes e ++ rest)) 0 (e .masses) 0
-      (λ i l. ap (figureIn (entryBytes e ++ rest)) (zero-add i) ∙ figure-at i (omega (arith, v .gases)) ∙ List·getD-append (e .masses) (equivalent (e .masses) ∷ []) 0 i l))
+      (counted-all (figureIn (entryBytes e ++ rest)) 0 (e .masses)
+      (λ i l. figure-at i (omega (arith, v .gases)) ∙ List·getD-append (e .masses) (equivalent (e .masses) ∷ []) 0 i l))
 
   pub entry-back : entryIn (entryBytes e ++ rest) ≡ e
   unfolding entryIn sum front

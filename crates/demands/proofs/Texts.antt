@@ -12,9 +12,9 @@ use Rattle.meaning.specs.Calls.{formTest, text}
 use Rattle.demands.specs.Table.{CO2, CH4, N2O}
 use Rattle.demands.specs.Valid.{massOf, equivalentOf, Entered}
 use Rattle.demands.specs.Text.{Line, Lines, printed, Texts}
-use Rattle.demands.proofs.Figures.{equivalent-is}
+use Rattle.demands.proofs.Figures.{three-masses, equivalent-is}
 use Rattle.demands.proofs.Decimals.{decimal-written, decimal-only}
-use Rattle.demands.proofs.Holds.{figure-mass, figure-last, sum-same, three-masses}
+use Rattle.demands.proofs.Holds.{figure-mass, figure-last, sum-same}
 use Rattle.demands.proofs.Exactly.{left-written, length-written}
 use Rattle.demands.proofs.ReportCalls.{text-passed}
 use Rattle.demands.proofs.ReportTests.{formed-report, passed-form, made-of}

@@ -2,7 +2,6 @@
 use mathlib.Core.List.{List, _++_, map}
 use mathlib.Core.Path.{_≡_, refl, sym, ap, ap₂, _∙_}
 use Prim.Native.Nat.{ℕ, zero, suc, _+_, _*_, _≤_, _<_}
-use native.Mathlib.Nat.{zero-add}
 use native.Mathlib.Omega.{arith}
 use lib.ListN.{length, getD, take, drop, replicate, length-drop, take-append-drop}
 use lib.Seq.{take-add, take-all}
@@ -12,14 +11,14 @@ use Rattle.basis.proofs.Lists.{at-each}
 use Rattle.meaning.specs.Report.{Entry, figureCount, totals, reportTag, entriesAt, entryLength, reportLength, reportHeader, entryBytes, reportBytes, reportYear, entryCount, entryAt, entryIn, entriesOf, numberBefore}
 use Rattle.meaning.proofs.Reports.{Formed, count-is, length-masses, entry-again, totals-read}
 use Rattle.demands.specs.Valid.{Entered, noEntry, Reportable}
-use Rattle.basis.proofs.Counting.{getD-counted}
+use Rattle.basis.proofs.Counting.{at-counted}
 use Rattle.demands.proofs.Figures.{equivalent-is}
 use Rattle.demands.proofs.Reports.{prior, at-ascending, headerWidths, headerNumbers}
 use Rattle.basis.proofs.Rows.{starts-tag, numberAt-drop, numberAt-fits, unpacked, unpacked-same, packed-unpacked, bytes-drop, write-rows}
 
 pub entry-at : (b : List ℕ) (i : ℕ) → i < entryCount b → getD (entriesOf b) i noEntry ≡ entryIn (entryAt b i)
 unfolding entriesOf
-entry-at b i l = getD-counted (λ i. entryIn (entryAt b i)) noEntry (entryCount b) 0 i l ∙ ap (λ (k : ℕ). entryIn (entryAt b k)) (zero-add i)
+entry-at b i l = at-counted (λ i. entryIn (entryAt b i)) noEntry (entryCount b) i l
 
 -- A well-formed report, and what it is written of.
 module _ (b : List ℕ) (h : Bytes b) (f : Formed b) where

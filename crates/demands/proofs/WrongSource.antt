@@ -7,13 +7,12 @@ use Prim.Native.Nat.{ℕ, _+_, _*_, _≤_, _<_}
 use native.Mathlib.Decide.{decLt}
 use native.Mathlib.Omega.{arith}
 use lib.Dec.{eqb, ltb, leb}
-use lib.ListN.{length, getD, take, drop, length-drop, length-map}
+use lib.ListN.{length, getD, take, drop, length-drop}
 use lib.Seq.{length-take-le, getD-take, getD-drop}
 use borrow.Author.Tests.{ltb-true, eqb-true, eqb-false, leb-false, lt-ltb, lt-leb, eq-eqb, ne-eqb, not-true}
 use Rattle.basis.specs.Lists.{countUp, any}
 use Rattle.basis.proofs.Bools.{clash, and-true, true-and, not-both, either-or, or-either, or-true}
-use Rattle.basis.proofs.Lists.{length-countUp}
-use Rattle.basis.proofs.Counting.{any-some, some-any}
+use Rattle.basis.proofs.Counting.{length-counted, any-some, some-any}
 use Rattle.meaning.specs.Methods.{within, listed}
 use Rattle.meaning.specs.Register.{sourceAt, lineStart, nameStart, misplaced, unsound, badNameByte, wrongSource}
 use Rattle.meaning.specs.Register.{lineAt}
@@ -161,7 +160,7 @@ module _ (b : List ℕ) (i : ℕ) (long : length b ≡ 32 + 16 * sourcesIn b + 2
   E = any badNameByte name
 
   count-lines : length (map (lineAt b) (countUp (firstLine b i) (lineCount b i))) ≡ lineCount b i
-  count-lines = length-map (countUp (firstLine b i) (lineCount b i)) (lineAt b) ∙ length-countUp (firstLine b i) (lineCount b i)
+  count-lines = length-counted (lineAt b) (firstLine b i) (lineCount b i)
 
   unsound-then : unsound (sourceAt b i) ≡ true → WrongSource b i
   unfolding unsound sourceAt name

@@ -1,20 +1,20 @@
 -- Laws of reports: what a well-formed one says, and its figures and totals as they are read. Assumes nothing.
 use mathlib.Core.Bool.{true, false}
 use mathlib.Core.List.{List, [], _∷_, _++_, map}
-use mathlib.Core.Path.{_≡_, sym, ap, _∙_}
+use mathlib.Core.Path.{_≡_, sym, _∙_}
 use Prim.Native.Nat.{ℕ, zero, suc, _+_, _≤_, _<_, zero-le}
-use native.Mathlib.Nat.{zero-add, not-suc-le-zero, le-of-suc-le-suc, mul-le-mul-right}
+use native.Mathlib.Nat.{not-suc-le-zero, le-of-suc-le-suc, mul-le-mul-right}
 use native.Mathlib.Omega.{arith}
-use lib.ListN.{length, getD, take, drop, replicate, length-append, length-drop, length-map}
+use lib.ListN.{length, getD, take, drop, replicate, length-append, length-drop}
 use lib.Seq.{take-add}
 use borrow.Author.Tests.{ltb-false, leb-true, leb-false, eqb-true, not-true, not-false}
 use Rattle.basis.specs.Bytes.{numberAt, packed, Bytes, startsWith}
 use Rattle.basis.specs.Lists.{Each, sum, countUp}
 use Rattle.basis.proofs.Bools.{and-true, or-false}
-use Rattle.basis.proofs.Counting.{counted-none, getD-counted, counted-list}
-use Rattle.basis.proofs.Lists.{sum-both, length-countUp}
+use Rattle.basis.proofs.Counting.{length-counted, at-counted, counted-all, counted-none}
+use Rattle.basis.proofs.Lists.{sum-both}
 use Rattle.basis.proofs.Rows.{numberAt-drop, unpacked, unpacked-same, packed-unpacked, bytes-drop}
-use Rattle.meaning.specs.Masses.{gasCount, gases, warming, weighed, equivalent, limit}
+use Rattle.meaning.specs.Masses.{gasCount, warming, weighed, equivalent, limit}
 use Rattle.meaning.specs.Register.{mostSources}
 use Rattle.meaning.specs.Report.{Entry, figures, figureCount, figure, totals, reportTag, reportLayout, entriesAt, entryLength, reportLength, entryBytes, reportYear, entryCount, totalAt, entryAt, figureIn, entryIn, entriesOf, headerRight, numberBefore, wrongEntry, wrongTotal, wellFormed}
 
@@ -97,11 +97,11 @@ formed b w =
 
 pub count-is : (b : List ℕ) → length (entriesOf b) ≡ entryCount b
 unfolding entriesOf
-count-is b = length-map (countUp 0 (entryCount b)) (λ i. entryIn (entryAt b i)) ∙ length-countUp 0 (entryCount b)
+count-is b = length-counted (λ i. entryIn (entryAt b i)) 0 (entryCount b)
 
 pub length-masses : (r : List ℕ) → length (entryIn r .masses) ≡ gasCount
 unfolding entryIn
-length-masses r = length-map gases (figureIn r) ∙ length-countUp 0 gasCount
+length-masses r = length-counted (figureIn r) 0 gasCount
 
 -- Figures. None is above the equivalent, since no warming value is below 1.
 pub length-figures : (e : Entry) → length (e .masses) ≡ gasCount → length (figures e) ≡ figureCount
@@ -132,7 +132,7 @@ figures-read r e = rw (← e)
 
 pub figure-read : (r : List ℕ) → figureIn r gasCount ≡ equivalent (entryIn r .masses) → (k : ℕ) → k < figureCount → figure k (entryIn r) ≡ figureIn r k
 unfolding figure
-figure-read r e k l = rw (figures-read r e) (getD-counted (figureIn r) 0 figureCount 0 k l ∙ ap (figureIn r) (zero-add k))
+figure-read r e k l = rw (figures-read r e) (at-counted (figureIn r) 0 figureCount k l)
 
 -- an entry that is read and written again is what stood there
 abbrev frontWidths : List ℕ
@@ -159,17 +159,16 @@ module _ (r : List ℕ) (zeros : numberAt 3 r 5 ≡ 0) (right : figureIn r gasCo
 -- Totals, and how they are read.
 pub length-totals : (es : List Entry) → length (totals es) ≡ figureCount
 unfolding totals
-length-totals es = length-map (countUp 0 figureCount) (λ k. sum (map (figure k) es)) ∙ length-countUp 0 figureCount
+length-totals es = length-counted (λ k. sum (map (figure k) es)) 0 figureCount
 
 pub total-is : (es : List Entry) (k : ℕ) → k < figureCount → getD (totals es) k 0 ≡ sum (map (figure k) es)
 unfolding totals
-total-is es k l = getD-counted (λ k. sum (map (figure k) es)) 0 figureCount 0 k l ∙ ap (λ (i : ℕ). sum (map (figure i) es)) (zero-add k)
+total-is es k l = at-counted (λ k. sum (map (figure k) es)) 0 figureCount k l
 
 pub totals-read : (b : List ℕ) → Formed b → totals (entriesOf b) ≡ map (totalAt b) (countUp 0 figureCount)
 totals-read b f =
-    sym
-    (rw (length-totals (entriesOf b)) at
-    (counted-list (totalAt b) 0 (totals (entriesOf b)) 0 (λ i l. ap (totalAt b) (zero-add i) ∙ f .total i (rw (length-totals (entriesOf b)) at l))))
+    let n = length-totals (entriesOf b) in
+    sym (rw n at (counted-all (totalAt b) 0 (totals (entriesOf b)) (λ i l. f .total i (rw n at l))))
 
 pub total-more : (es : List Entry) (e : Entry) (k : ℕ) → k < figureCount → getD (totals (es ++ (e ∷ []))) k 0 ≡ getD (totals es) k 0 + figure k e
 unfolding sum

@@ -3,16 +3,14 @@ use mathlib.Core.List.{List, [], map}
 use mathlib.Core.Bool.{true, false}
 use mathlib.Core.Path.{_≡_, sym, ap, _∙_}
 use Prim.Native.Nat.{ℕ, _+_, _≤_, _<_}
-use native.Mathlib.Nat.{zero-add}
 use native.Mathlib.Omega.{arith}
 use lib.Dec.{eqb}
 use lib.ListN.{length, getD, take, length-map, List·getD-map, length-take}
 use lib.Seq.{getD-take}
 use borrow.Author.Tests.{ltb-false, eqb-true, eq-eqb, not-false}
-use Rattle.basis.specs.Lists.{countUp, stands}
+use Rattle.basis.specs.Lists.{stands}
 use Rattle.basis.proofs.Bools.{or-false}
-use Rattle.basis.proofs.Counting.{any-some, some-any, getD-counted}
-use Rattle.basis.proofs.Lists.{length-countUp}
+use Rattle.basis.proofs.Counting.{length-counted, at-counted, any-some, some-any}
 use Rattle.meaning.specs.Register.{Source, sourceCount, lineCount, nameBytes, sourceEntry, numberIn, lineCountIn, firstLineIn, nameLengthIn, nameOffsetIn, sourceAt, sourcesOf, lineStart, nameStart, misplaced, repeats}
 
 -- an entry that stands where the one before it ended, with its lines and its name within the register's
@@ -47,14 +45,14 @@ sourceNumbers b = map sourceNumber (sourcesOf b)
 
 pub length-sources : (b : List ℕ) → length (sourcesOf b) ≡ sourceCount b
 unfolding sourcesOf
-length-sources b = length-map (countUp 0 (sourceCount b)) (sourceAt b) ∙ length-countUp 0 (sourceCount b)
+length-sources b = length-counted (sourceAt b) 0 (sourceCount b)
 
 pub length-numbers : (b : List ℕ) → length (sourceNumbers b) ≡ sourceCount b
 length-numbers b = length-map (sourcesOf b) sourceNumber ∙ length-sources b
 
 pub source-at : (b : List ℕ) (i : ℕ) → i < sourceCount b → getD (sourcesOf b) i noSource ≡ sourceAt b i
 unfolding sourcesOf
-source-at b i l = getD-counted (sourceAt b) noSource (sourceCount b) 0 i l ∙ ap (sourceAt b) (zero-add i)
+source-at b i l = at-counted (sourceAt b) noSource (sourceCount b) i l
 
 pub number-at : (b : List ℕ) (i : ℕ) → i < sourceCount b → getD (sourceNumbers b) i 0 ≡ numberIn (sourceEntry b i)
 unfolding sourceAt
