@@ -1,3 +1,4 @@
 pub mod Judging
 pub mod Waiting
 pub mod Pass
+pub mod Calculating

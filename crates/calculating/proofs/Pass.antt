@@ -78,7 +78,7 @@ fault-now : (b : List ℕ) (i : ℕ) → i < sourceCount b → drop i (faults b)
 fault-now b i l = drop-cons (faults b) i 0 (omega (arith, length-faults b)) ∙ rw (fault-at b i l, add-one i)
 
 -- where tests 6 and 7 pass, no source has a fault
-none-faulty : (b : List ℕ) → massTest (sourcesOf b) ≡ Passes → (i : ℕ) → i < sourceCount b → massFault (sourceAt b i) ≡ 0
+pub none-faulty : (b : List ℕ) → massTest (sourcesOf b) ≡ Passes → (i : ℕ) → i < sourceCount b → massFault (sourceAt b i) ≡ 0
 unfolding massTest faultAt faults
 none-faulty b e i l =
     let none = passed-at-first (faultAt (faults b)) (length (faults b)) _ _ .0 e in

@@ -1,0 +1,81 @@
+-- Calculation as its tests in order: what each part of the code finds is what the call answers. Assumes nothing.
+use mathlib.Core.Bool.{Bool, true, false, cond}
+use mathlib.Core.List.{List, [], _∷_, _++_, map, append-assoc}
+use mathlib.Core.Path.{_≡_, refl, sym, ap, _∙_}
+use Prim.Native.Nat.{ℕ, _+_, _*_, _≤_, _<_}
+use native.Mathlib.Omega.{arith}
+use borrow.Author.Needs.{needs}
+use borrow.Author.Tests.{ltb-false}
+use lib.Dec.{ltb}
+use lib.ListN.{length, take, drop, length-map}
+use lib.Seq.{take-at}
+use Rattle.basis.specs.declared.Answer.{Answer}
+use Rattle.basis.specs.declared.Verdict.{Verdict}
+use Rattle.basis.specs.declared.Verdict.the-variants.{Passes, Refuses}
+use Rattle.basis.specs.Bytes.{Written}
+use Rattle.basis.specs.Lists.{Each}
+use Rattle.basis.specs.Answers.{firstRefusal, answer, Gives}
+use Rattle.basis.proofs.Answers.{passed-then, refused-then, each-passes}
+use Rattle.basis.proofs.Lists.{sortedBy-each, length-sortedBy}
+use Rattle.meaning.specs.Masses.{belowZero, masses, equivalent, limit}
+use Rattle.meaning.specs.Register.{Source, yearOf, sourceCount, sourceAt, sourcesOf, decodedLines, registerTests}
+use Rattle.meaning.specs.Report.{Entry, entryOf, inOrder, figureCount, reportLength, reportBytes}
+use Rattle.meaning.specs.Calls.{lineTest, massFault, massTest, entriesFor, calculationTests, calculatedReport, calculated}
+use Rattle.meaning.proofs.Calls.{refused-gives, short-gives, made-gives}
+use Rattle.meaning.proofs.Laws.{one-entry-each}
+use Rattle.meaning.proofs.Lengths.{Massed, source-massed, length-report}
+use Rattle.meaning.proofs.Sources.{length-sources}
+use Rattle.registers.specs.Keys.{sortedKeys, Tested}
+use Rattle.registers.proofs.Tested.{passed-headed, keys-left}
+use Rattle.calculating.specs.Sources.{Passed, Judged}
+use Rattle.calculating.proofs.Pass.{none-faulty}
+
+-- a refusal of tests 1 to 4
+pub register-refused : {b keys left report : List ℕ} {v : Verdict} {n p : ℕ} → Tested b keys v left → v ≡ Refuses n p
+    → Gives (calculated b report) (record { number = n; place = p; length = 0 }) report
+unfolding calculated
+register-refused {b} {report = report} t e =
+    refused-gives (calculationTests b) (calculatedReport b) report
+    (refused-then (registerTests b) (lineTest (sourcesOf b) ∷ massTest (sourcesOf b) ∷ []) (sym (t .verdict) ∙ e))
+
+pub passed : {b keys left : List ℕ} {v : Verdict} → Tested b keys v left → v ≡ Passes → Passed b
+passed {b} t e = let f = sym (t .verdict) ∙ e in record { tests = f; head = passed-headed b f }
+
+-- a refusal of tests 5 to 7
+pub source-refused : {b kept report : List ℕ} {v : Verdict} {n p : ℕ} → Passed b → Judged b v kept → v ≡ Refuses n p
+    → Gives (calculated b report) (record { number = n; place = p; length = 0 }) report
+unfolding calculated
+source-refused {b} {report = report} h j e =
+    refused-gives (calculationTests b) (calculatedReport b) report
+    (passed-then (registerTests b) (lineTest (sourcesOf b) ∷ massTest (sourcesOf b) ∷ []) (h .tests) ∙ sym (j .verdict) ∙ e)
+
+pub all-passed : {b kept : List ℕ} {v : Verdict} → Passed b → Judged b v kept → v ≡ Passes → firstRefusal (calculationTests b) ≡ Passes
+all-passed {b} h j e = passed-then (registerTests b) (lineTest (sourcesOf b) ∷ massTest (sourcesOf b) ∷ []) (h .tests) ∙ sym (j .verdict) ∙ e
+
+-- where nothing refuses, each equivalent keeps the limit
+fault-none : (s : Source) → massFault s ≡ 0 → equivalent (masses (decodedLines s)) ≤ limit
+unfolding massFault
+fault-none s e = by (belowZero (decodedLines s)) (ltb limit (equivalent (masses (decodedLines s)))) refl e
+  where
+    by : (c d : Bool) → ltb limit (equivalent (masses (decodedLines s))) ≡ d → _≡_ {A = ℕ} (cond c 6 (cond d 7 0)) 0 → equivalent (masses (decodedLines s)) ≤ limit
+    by true d q h = absurd (omega arith)
+    by false true q h = absurd (omega arith)
+    by false false q h = ltb-false _ _ q
+
+pub kept-within : {b kept : List ℕ} {v : Verdict} → Judged b v kept → v ≡ Passes → (i : ℕ) → i < sourceCount b → equivalent (entryOf (sourceAt b i) .masses) ≤ limit
+unfolding entryOf
+kept-within {b} j e i l =
+    let m = each-passes (lineTest (sourcesOf b) ∷ massTest (sourcesOf b) ∷ []) (sym (j .verdict) ∙ e) .1 .0 in
+    fault-none (sourceAt b i) (none-faulty b m i l)
+
+-- the report of all sources is as long as their count says
+each-massed : (ss : List Source) → Each Massed (map entryOf ss)
+each-massed [] = tt
+each-massed (s ∷ ss) = (source-massed s, each-massed ss)
+
+pub length-calculated : (b : List ℕ) → length (calculatedReport b) ≡ reportLength (sourceCount b)
+unfolding entriesFor inOrder
+length-calculated b =
+    let ss = sourcesOf b in
+    length-report (yearOf b) (entriesFor ss) (sortedBy-each (λ e. e .number) Massed (map entryOf ss) (each-massed ss))
+    ∙ ap reportLength (one-entry-each ss .1 ∙ length-sources b)
