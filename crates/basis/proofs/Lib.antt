@@ -8,3 +8,4 @@ pub mod Counting
 pub mod Rows
 pub mod Blocks
 pub mod Filling
+pub mod ByIndex

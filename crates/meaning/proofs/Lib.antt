@@ -8,3 +8,4 @@ pub mod Calls
 pub mod Masses
 pub mod Lines
 pub mod Lengths
+pub mod Totals

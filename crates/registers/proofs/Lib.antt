@@ -2,3 +2,4 @@ pub mod Scans
 pub mod LaidOut
 pub mod Tested
 pub mod Names
+pub mod Passed
