@@ -1,0 +1,26 @@
+use borrow.Author.Needs.{needs}
+use Rattle.issuing.proofs.Issuing.{issuingOne}
+use Rattle.issuing.proofs.put_source.Statement.{statement}
+use Rattle.issuing.proofs.put_source.Tie as tie
+
+pub put-source-spec : {M : Type 1} → statement M
+put-source-spec =
+    tie.close
+    (tie.spec
+    (search needs)
+    (λ c. search issuingOne)
+    (search needs)
+    (search needs)
+    (search needs)
+    (λ c κs. search issuingOne)
+    (search needs)
+    (search needs)
+    (search needs)
+    (search needs)
+    (search needs)
+    (search needs)
+    (search needs)
+    (λ c. search issuingOne)
+    (search needs)
+    (search needs)
+    (λ c. search issuingOne))

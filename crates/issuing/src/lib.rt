@@ -1,0 +1,96 @@
+// Document 01, "The report": the report of a register whose sources have been judged.
+ghost use mathlib.Core.List.{map};
+ghost use mathlib.Core.Path.{_≡_};
+ghost use Prim.Native.Nat.{_+_, _≤_, _<_};
+ghost use lib.ListN.{length, getD};
+ghost use Rattle.basis.specs.Bytes.{Written};
+ghost use Rattle.basis.specs.Lists.{joined};
+ghost use Rattle.meaning.specs.Register.{sourceCount, sourcesOf};
+ghost use Rattle.meaning.specs.Report.{figureCount, entriesAt, reportLength, entryBytes};
+ghost use Rattle.meaning.specs.Calls.{entriesFor, calculatedReport};
+ghost use Rattle.issuing.specs.Ready.{Ready, Summable, total, totalsOf, entryOfKey};
+use reports::ENTRIES_AT;
+use reports::ENTRY_LENGTH;
+use reports::FIGURES;
+
+// Where a register's sources begin, the length of a source entry, and the place of the method in it.
+const SOURCES: usize = 32;
+
+const SOURCE: usize = 16;
+
+const METHOD: usize = 4;
+
+// As many sources as a register may have: a key is a source's number times this, and its index.
+const MOST: u64 = 512;
+
+// One figure of n sources, added up.
+fn total_of(figures: &[u64], n: usize, k: usize) -> u64
+    requires { ⌜ Summable (now figures) n × (k < figureCount) ⌝ }
+    ensures { λ r. ⌜ r ≡ total (now (figures .entry)) n k ⌝ }
+{
+    let mut sum: u64 = 0;
+    let mut i: usize = 0;
+    while i < n {
+        sum += figures[FIGURES * i + k];
+        i += 1;
+    }
+    sum
+}
+
+// "the totals of CO2, CH4, N2O and CO2-equivalent": they do not go by the order of the sources.
+fn totals_of(figures: &[u64], n: usize) -> [u64; FIGURES]
+    requires { ⌜ Summable (now figures) n ⌝ }
+    ensures { λ r. ⌜ r ≡ totalsOf (now (figures .entry)) n ⌝ }
+{
+    let mut totals = [0u64; FIGURES];
+    let mut k: usize = 0;
+    while k < FIGURES {
+        totals[k] = total_of(figures, n, k);
+        k += 1;
+    }
+    totals
+}
+
+// Entry k of the report: that of the source whose key stands at k. Its figures stand where the table has the source.
+fn put_source(register: &[u8], keys: &[u64], k: usize, figures: &[u64], report: &mut [u8])
+    requires { ⌜ Ready (now register) (now keys) (now figures) × (k < sourceCount (now register)) × (reportLength (k + 1) ≤ length (now report)) ⌝ }
+    ensures { λ _. ⌜ Written (now (report .entry)) (reportLength k) (entryBytes (entryOfKey (now (register .entry)) (getD (now (keys .entry)) k 0))) (now (report .exit)) ⌝ }
+{
+    let key = keys[k];
+    let index = (key % MOST) as usize;
+    let method = fields::u8_at(register, SOURCES + SOURCE * index + METHOD);
+    let start = FIGURES * index;
+    let end = start + FIGURES;
+    reports::put_entry(
+        report,
+        ENTRIES_AT + ENTRY_LENGTH * k,
+        key / MOST,
+        method,
+        &figures[start..end],
+    );
+}
+
+// "Entries are 40 bytes, ascending by source number", as the keys are.
+fn put_sources(register: &[u8], keys: &[u64], figures: &[u64], report: &mut [u8])
+    requires { ⌜ Ready (now register) (now keys) (now figures) × (reportLength (sourceCount (now register)) ≤ length (now report)) ⌝ }
+    ensures { λ _. ⌜ Written (now (report .entry)) entriesAt (joined (map entryBytes (entriesFor (sourcesOf (now (register .entry)))))) (now (report .exit)) ⌝ }
+{
+    let n = fields::u16_at(register, 8) as usize;
+    let mut k: usize = 0;
+    while k < n {
+        put_source(register, keys, k, figures, report);
+        k += 1;
+    }
+}
+
+// The report of a register whose sources have been judged: its header with the totals, and its entries, ascending by number.
+pub fn write_report(register: &[u8], keys: &[u64], figures: &[u64], report: &mut [u8])
+    requires { ⌜ Ready (now register) (now keys) (now figures) × (reportLength (sourceCount (now register)) ≤ length (now report)) ⌝ }
+    ensures { λ _. ⌜ Written (now (report .entry)) 0 (calculatedReport (now (register .entry))) (now (report .exit)) ⌝ }
+{
+    let year = fields::u16_at(register, 6);
+    let n = fields::u16_at(register, 8);
+    let totals = totals_of(figures, n as usize);
+    reports::put_header(report, year, n, &totals);
+    put_sources(register, keys, figures, report);
+}
