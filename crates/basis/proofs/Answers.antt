@@ -103,22 +103,6 @@ passed-if false n p e = refl
 pub if-passed : (b : Bool) (n p : ℕ) → b ≡ false → refuseIf b n p ≡ Passes
 if-passed b n p e = rw e
 
--- a call accepts exactly when each of its tests passes
-pub passed-exactly : (tests : List Verdict) → firstRefusal tests ≡ Passes ↔ ((i : ℕ) → getD tests i Passes ≡ Passes)
-unfolding firstRefusal
-passed-exactly tests = (each tests, all tests)
-  where
-    each : (ts : List Verdict) → firstRefusal ts ≡ Passes → (i : ℕ) → getD ts i Passes ≡ Passes
-    each [] e i = refl
-    each (Passes ∷ ts) e zero = refl
-    each (Passes ∷ ts) e (suc i) = each ts e i
-    each (Refuses n p ∷ ts) e i = absurd (never (sym e))
-
-    all : (ts : List Verdict) → ((i : ℕ) → getD ts i Passes ≡ Passes) → firstRefusal ts ≡ Passes
-    all [] h = refl
-    all (Passes ∷ ts) h = all ts (λ i. h (suc i))
-    all (Refuses n p ∷ ts) h = absurd (never (sym (h 0)))
-
 -- a test at the first index that is wrong refuses exactly so: with the number and the place of the only index that is wrong with none before it
 module _ (wrong : ℕ → Bool) (count : ℕ) where
   pub refused-at-first : (number place : ℕ → ℕ) (n p : ℕ)
