@@ -9,3 +9,4 @@ pub mod Rows
 pub mod Blocks
 pub mod Filling
 pub mod ByIndex
+pub mod Scans

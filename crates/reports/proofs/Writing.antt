@@ -104,7 +104,7 @@ module _ (b : List ℕ) (i : ℕ) (h : Bytes b) (r : Readable b) (l : i < entryC
   entry-room : entryLength ≤ length (entryAt b i)
   entry-room = rw (length-drop (entriesAt + entryLength * i) b) (omega (arith, r .filled))
 
-  entry-stands : entryBytes (entryIn (entryAt b i)) ≡ take entryLength (entryAt b i)
+  pub entry-stands : entryBytes (entryIn (entryAt b i)) ≡ take entryLength (entryAt b i)
   entry-stands =
       let e = formed b (r .right) .entry i l in
       entry-again (entryAt b i) (e .zeros) (e .right) (bytes-drop (entriesAt + entryLength * i) b h) entry-room
