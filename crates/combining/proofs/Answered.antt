@@ -1,0 +1,177 @@
+-- The two calls: what each test answers, and what is answered and left where a test refuses, where there is no room, and where the call accepts. Assumes nothing.
+use mathlib.Core.Bool.{Bool, true, false, not}
+use mathlib.Core.List.{List, [], _∷_, map}
+use mathlib.Core.Path.{_≡_, refl, sym, ap, _∙_}
+use Prim.Native.Nat.{ℕ, _+_, _-_, _≤_, _<_}
+use native.Mathlib.Omega.{arith}
+use borrow.Author.Needs.{needs}
+use borrow.Author.Tests.{eq-eqb, ne-eqb, lt-ltb, le-ltb, ltb-false, not-false}
+use lib.Dec.{eqb, ltb}
+use lib.ListN.{length, getD, List·getD-eq-default}
+use Rattle.basis.specs.declared.Verdict.{Verdict}
+use Rattle.basis.specs.declared.Verdict.the-variants.{Passes, Refuses}
+use Rattle.basis.specs.Answers.{firstRefusal, Gives}
+use Rattle.basis.specs.Bytes.{Written}
+use Rattle.basis.specs.First.{first}
+use Rattle.basis.specs.Lists.{Each, any}
+use Rattle.basis.proofs.Answers.{passed-then, refused-then, each-passes, passed-append, passed-if}
+use Rattle.meaning.specs.Register.{mostSources}
+use Rattle.meaning.specs.Report.{reportLength, reportBytes, reportYear, entryCount, entriesOf, wellFormed}
+use Rattle.meaning.specs.Calls.{formTest, yearTest, sharedAt, sharedTest, countTest, combinationTests, bothEntries, combinedReport, combined, numbered, absentTest, removalTests, removedReport, removed}
+use Rattle.meaning.proofs.Calls.{refused-gives, short-gives, made-gives}
+use Rattle.reports.specs.Stated.{Readable}
+use Rattle.reports.proofs.Judged.{readable}
+use Rattle.combining.specs.Entries.{formTests, entryTests, sharedNumber, Combinable, hasNumber, otherEntries}
+use Rattle.combining.proofs.Apart.{read-within, read-past}
+use Rattle.combining.proofs.Merged.{positive-numbers, massed-both, length-both}
+use Rattle.combining.proofs.Removed.{absent, present, without-is, length-others, others-massed}
+use Rattle.combining.proofs.Rows.{length-report}
+
+-- 9, of the one and of the other
+module _ (one other : List ℕ) {f : Bool} (e : f ≡ wellFormed one) where
+  pub first-malformed : not f ≡ true → Refuses 9 1 ≡ firstRefusal (formTests one other)
+  unfolding firstRefusal formTests
+  first-malformed t = rw (← e, t)
+
+  module _ (t : not f ≡ false) {s : Bool} (d : s ≡ wellFormed other) where
+    pub second-malformed : not s ≡ true → Refuses 9 2 ≡ firstRefusal (formTests one other)
+    unfolding firstRefusal formTests
+    second-malformed u = rw (← e, t, ← d, u)
+
+    pub well-formed : not s ≡ false → Passes ≡ firstRefusal (formTests one other)
+    unfolding firstRefusal formTests
+    well-formed u = rw (← e, t, ← d, u)
+
+pub ruleset forming = (needs, first-malformed, second-malformed, well-formed)
+
+-- 11
+pub shared-refused : (one other : List ℕ) → 0 < sharedNumber one other → sharedTest one other ≡ Refuses 11 (sharedNumber one other)
+unfolding sharedTest sharedNumber
+shared-refused one other l =
+    let ns = map (λ e. e .number) (entriesOf one) in
+    let ms = map (λ e. e .number) (entriesOf other) in
+    let i = first (sharedAt ns ms) (length ns) in
+    rw (lt-ltb i (length ns) (read-within ns i l))
+
+pub none-shared : (one other : List ℕ) → Readable one → sharedNumber one other ≤ 0 → sharedTest one other ≡ Passes
+unfolding sharedTest sharedNumber
+none-shared one other r l =
+    let ns = map (λ e. e .number) (entriesOf one) in
+    let ms = map (λ e. e .number) (entriesOf other) in
+    let i = first (sharedAt ns ms) (length ns) in
+    rw (le-ltb i (length ns) (read-past ns i (positive-numbers one r) l))
+
+pub shared-zero : (one other : List ℕ) → sharedTest one other ≡ Passes → sharedNumber one other ≡ 0
+unfolding sharedTest sharedNumber
+shared-zero one other e =
+    let ns = map (λ e. e .number) (entriesOf one) in
+    let ms = map (λ e. e .number) (entriesOf other) in
+    let i = first (sharedAt ns ms) (length ns) in
+    List·getD-eq-default ns 0 {n = i} (ltb-false i (length ns) (passed-if (ltb i (length ns)) 11 (getD ns i 0) e))
+
+-- 10, 11, 12
+module _ (one other : List ℕ) {y z : ℕ} (d : y ≡ reportYear one) (e : z ≡ reportYear other) where
+  pub years-differ : (y ≡ z → ⊥) → Refuses 10 0 ≡ firstRefusal (entryTests one other)
+  unfolding firstRefusal entryTests
+  years-differ h = rw (← d, ← e, ne-eqb y z h)
+
+  module _ (h : y ≡ z) {s : ℕ} (f : s ≡ sharedNumber one other) where
+    pub number-shared : 0 < s → Refuses 11 s ≡ firstRefusal (entryTests one other)
+    unfolding firstRefusal entryTests
+    number-shared l = rw (← d, ← e, eq-eqb y z h, shared-refused one other (rw f at l), f)
+
+    module _ (r : Readable one × Readable other) (l : s ≤ 0) {n m : ℕ} (g : n ≡ entryCount one) (k : m ≡ entryCount other) where
+      pub too-many : mostSources < n + m → Refuses 12 (n + m) ≡ firstRefusal (entryTests one other)
+      unfolding firstRefusal entryTests
+      too-many o = rw (← d, ← e, eq-eqb y z h, none-shared one other (r .0) (rw f at l), ← g, ← k, lt-ltb mostSources (n + m) o)
+
+      pub entries-pass : n + m ≤ mostSources → Passes ≡ firstRefusal (entryTests one other)
+      unfolding firstRefusal entryTests
+      entries-pass o = rw (← d, ← e, eq-eqb y z h, none-shared one other (r .0) (rw f at l), ← g, ← k, le-ltb mostSources (n + m) o)
+
+pub ruleset entering = (needs, years-differ, number-shared, too-many, entries-pass)
+
+-- all tests of a combination
+module _ (one other : List ℕ) {v : Verdict} (e : v ≡ firstRefusal (formTests one other)) where
+  pub forms-refused : {n p : ℕ} → v ≡ Refuses n p → v ≡ firstRefusal (combinationTests one other)
+  unfolding formTests entryTests
+  forms-refused f = f ∙ sym (refused-then (formTests one other) (entryTests one other) (sym e ∙ f))
+
+  module _ (f : v ≡ Passes) where
+    pub both-readable : Readable one × Readable other
+    unfolding formTests
+    both-readable =
+        let p = each-passes (formTests one other) (sym e ∙ f) in
+        let right : (b : List ℕ) (which : ℕ) → formTest b which ≡ Passes → wellFormed b ≡ true = λ b which q. not-false (wellFormed b) (passed-if (not (wellFormed b)) 9 which q) in
+        (readable one refl (right one 1 (p .0)), readable other refl (right other 2 (p .1 .0)))
+
+    pub forms-passed : {w : Verdict} → w ≡ firstRefusal (entryTests one other) → w ≡ firstRefusal (combinationTests one other)
+    unfolding formTests entryTests
+    forms-passed g = g ∙ sym (passed-then (formTests one other) (entryTests one other) (sym e ∙ f))
+
+pub ruleset testing = (needs, forms-refused, both-readable, forms-passed)
+
+-- a combination that passes its tests, and one that does not
+module _ (one other buffer : List ℕ) where
+  pub combination-refused : {v : Verdict} {n p : ℕ} → v ≡ firstRefusal (combinationTests one other) → v ≡ Refuses n p
+      → Gives (combined one other buffer) (record { number = n; place = p; length = 0 }) buffer
+  unfolding combined
+  combination-refused e f = refused-gives (combinationTests one other) (combinedReport one other) buffer (sym e ∙ f)
+
+  module _ (h : Combinable one other × (firstRefusal (combinationTests one other) ≡ Passes)) {n m : ℕ} (e : n ≡ entryCount one) (f : m ≡ entryCount other) where
+    length-combined : length (combinedReport one other) ≡ reportLength (n + m)
+    length-combined = length-report (reportYear one) (bothEntries one other) (massed-both one other) ∙ rw (e, f) (ap reportLength (length-both one other))
+
+    pub combination-short : length buffer < reportLength (n + m) → Gives (combined one other buffer) (record { number = 8; place = reportLength (n + m); length = 0 }) buffer
+    unfolding combined
+    combination-short l = rw (← length-combined) (short-gives (combinationTests one other) (combinedReport one other) buffer (h .1) (rw length-combined l))
+
+    pub combination-made : {left : List ℕ} → Written buffer 0 (combinedReport one other) left
+        → Gives (combined one other buffer) (record { number = 0; place = 0; length = reportLength (n + m) }) left
+    unfolding combined
+    combination-made w = rw (← length-combined) (made-gives (combinationTests one other) (combinedReport one other) buffer (h .1) w)
+
+pub combinable : (one other : List ℕ) {v : Verdict} → v ≡ firstRefusal (combinationTests one other) → v ≡ Passes
+    → Combinable one other × (firstRefusal (combinationTests one other) ≡ Passes)
+unfolding formTests entryTests
+combinable one other e f =
+    let p = each-passes (combinationTests one other) (sym e ∙ f) in
+    let r = both-readable one other (sym (passed-append (formTests one other) (entryTests one other) (sym e ∙ f) .0)) refl in
+    let n = entryCount one + entryCount other in
+    (record { first = r .0; second = r .1; apart = shared-zero one other (p .1 .1 .1 .0); few = ltb-false mostSources n (passed-if (ltb mostSources n) 12 n (p .1 .1 .1 .1 .0)) }, sym e ∙ f)
+
+-- removal
+module _ (b : List ℕ) (x : ℕ) (buffer : List ℕ) where
+  pub removal-malformed : {f : Bool} → f ≡ wellFormed b → f ≡ false → Gives (removed b x buffer) (record { number = 9; place = 1; length = 0 }) buffer
+  unfolding removed firstRefusal
+  removal-malformed e t = refused-gives (removalTests b x) (removedReport b x) buffer (rw (← e, t))
+
+  module _ (r : Readable b) {n i : ℕ} (e : n ≡ entryCount b) (f : i ≡ first (hasNumber b x) (entryCount b)) where
+    pub removal-absent : n ≤ i → Gives (removed b x buffer) (record { number = 13; place = x; length = 0 }) buffer
+    unfolding removed firstRefusal
+    removal-absent l = refused-gives (removalTests b x) (removedReport b x) buffer (rw (r .right, absent b r x i f (rw e at l)))
+
+    module _ (l : i < n) where
+      stands-there : i < entryCount b
+      stands-there = rw e at l
+
+      tests-pass : firstRefusal (removalTests b x) ≡ Passes
+      unfolding firstRefusal
+      tests-pass = rw (r .right, present b r x i f stands-there)
+
+      report-is : removedReport b x ≡ reportBytes (reportYear b) (otherEntries b i)
+      report-is = ap (reportBytes (reportYear b)) (without-is b r x i f stands-there)
+
+      length-removed : length (removedReport b x) ≡ reportLength (n - 1)
+      length-removed = rw report-is (length-report (reportYear b) (otherEntries b i) (others-massed b i) ∙ rw e (ap reportLength (length-others b i stands-there)))
+
+      pub removal-short : length buffer < reportLength (n - 1) → Gives (removed b x buffer) (record { number = 8; place = reportLength (n - 1); length = 0 }) buffer
+      unfolding removed
+      removal-short o = rw (← length-removed) (short-gives (removalTests b x) (removedReport b x) buffer tests-pass (rw length-removed o))
+
+      pub removal-made : {left : List ℕ} → Written buffer 0 (reportBytes (reportYear b) (otherEntries b i)) left
+          → Gives (removed b x buffer) (record { number = 0; place = 0; length = reportLength (n - 1) }) left
+      unfolding removed
+      removal-made w = rw (← length-removed) (made-gives (removalTests b x) (removedReport b x) buffer tests-pass (rw report-is w))
+
+pub ruleset removing = (needs, removal-malformed, removal-absent, removal-short, removal-made)

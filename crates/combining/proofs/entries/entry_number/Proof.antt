@@ -1,0 +1,13 @@
+use borrow.Author.Needs.{needs}
+use Rattle.combining.proofs.Rows.{number-read}
+use Rattle.combining.proofs.entries.entry_number.Statement.{statement}
+use Rattle.combining.proofs.entries.entry_number.Tie as tie
+
+pub entry-number-spec : {M : Type 1} → statement M
+entry-number-spec =
+    tie.close
+    (tie.spec
+    (search needs)
+    (search needs)
+    (search needs)
+    (λ c. search (needs, number-read)))

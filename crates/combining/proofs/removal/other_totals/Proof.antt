@@ -1,0 +1,17 @@
+use borrow.Author.Needs.{needs}
+use Rattle.combining.proofs.Rows.{others-held, others-taken}
+use Rattle.combining.proofs.removal.other_totals.Statement.{statement}
+use Rattle.combining.proofs.removal.other_totals.Tie as tie
+
+pub other-totals-spec : {M : Type 1} → statement M
+other-totals-spec =
+    tie.close
+    (tie.spec
+    (λ c. search needs)
+    (λ c κs. search needs)
+    (λ c. search needs)
+    (λ c. search needs)
+    (λ c. search needs)
+    (λ c. search needs)
+    (λ c κs. search (needs, others-held))
+    (λ c. search (needs, others-taken)))

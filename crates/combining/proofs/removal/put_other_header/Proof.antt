@@ -1,0 +1,17 @@
+use borrow.Author.Needs.{needs}
+use Rattle.combining.proofs.Removed.{other-header}
+use Rattle.combining.proofs.removal.put_other_header.Statement.{statement}
+use Rattle.combining.proofs.removal.put_other_header.Tie as tie
+
+pub put-other-header-spec : {M : Type 1} → statement M
+put-other-header-spec =
+    tie.close
+    (tie.spec
+    (λ c κs. search needs)
+    (λ c κs. search needs)
+    (λ c κs. search needs)
+    (λ c. search needs)
+    (λ c. search needs)
+    (λ c κs. search needs)
+    (λ c. search needs)
+    (λ c. search (needs, other-header)))

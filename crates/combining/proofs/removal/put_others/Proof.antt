@@ -1,0 +1,13 @@
+use borrow.Author.Needs.{needs}
+use Rattle.combining.proofs.Rows.{report-written}
+use Rattle.combining.proofs.removal.put_others.Statement.{statement}
+use Rattle.combining.proofs.removal.put_others.Tie as tie
+
+pub put-others-spec : {M : Type 1} → statement M
+put-others-spec =
+    tie.close
+    (tie.spec
+    (λ c κs. search needs)
+    (λ c κs. search needs)
+    (λ c. search needs)
+    (λ c. search (needs, report-written)))

@@ -1,0 +1,163 @@
+// Combination and removal of reports. Each call tests its own input and writes only where every test has passed.
+mod entries;
+mod merging;
+mod removal;
+
+ghost use mathlib.Core.Path.{_≡_};
+ghost use Rattle.basis.specs.declared.Verdict.the-variants.{Passes};
+ghost use Rattle.basis.specs.Answers.{firstRefusal, Gives};
+ghost use Rattle.meaning.specs.Calls.{combinationTests, combined, removed};
+ghost use Rattle.reports.specs.Stated.{Readable};
+ghost use Rattle.combining.specs.Entries.{formTests, entryTests, Combinable};
+use basis::Answer;
+use basis::Verdict;
+use entries::MOST;
+use entries::entry_count;
+use entries::year_of;
+use merging::put_both;
+use merging::shared_number;
+use removal::index_of;
+use removal::put_others;
+use reports::ENTRIES_AT;
+use reports::ENTRY_LENGTH;
+
+// "9 for the first, 9 for the second"
+fn test_forms(first: &[u8], second: &[u8]) -> Verdict
+    ensures { λ r. ⌜ r ≡ firstRefusal (formTests (now (first .entry)) (now (second .entry))) ⌝ }
+{
+    let first_right = reports::is_well_formed(first);
+    if !first_right {
+        return Verdict::Refuses {
+            number: 9,
+            place: 1,
+        };
+    }
+    let second_right = reports::is_well_formed(second);
+    if !second_right {
+        return Verdict::Refuses {
+            number: 9,
+            place: 2,
+        };
+    }
+    Verdict::Passes
+}
+
+// "10, 11, 12", of two well-formed reports.
+fn test_entries(first: &[u8], second: &[u8]) -> Verdict
+    requires { ⌜ Readable (now first) × Readable (now second) ⌝ }
+    ensures { λ r. ⌜ r ≡ firstRefusal (entryTests (now (first .entry)) (now (second .entry))) ⌝ }
+{
+    if year_of(first) != year_of(second) {
+        return Verdict::Refuses {
+            number: 10,
+            place: 0,
+        };
+    }
+    let shared = shared_number(first, second);
+    let n = entry_count(first) + entry_count(second);
+    if 0 < shared {
+        return Verdict::Refuses {
+            number: 11,
+            place: shared,
+        };
+    }
+    if MOST < n {
+        return Verdict::Refuses {
+            number: 12,
+            place: n as u64,
+        };
+    }
+    Verdict::Passes
+}
+
+// "Combining: 9 for the first, 9 for the second, 10, 11, 12"
+fn test_combination(first: &[u8], second: &[u8]) -> Verdict
+    ensures { λ r. ⌜ r ≡ firstRefusal (combinationTests (now (first .entry)) (now (second .entry))) ⌝ }
+{
+    let forms = test_forms(first, second);
+    let Verdict::Passes = forms else {
+        return forms;
+    };
+    test_entries(first, second)
+}
+
+// What is left of a combination whose tests have passed: the room, and the report.
+fn write_both(first: &[u8], second: &[u8], report: &mut [u8]) -> Answer
+    requires { ⌜ Combinable (now first) (now second) × (firstRefusal (combinationTests (now first) (now second)) ≡ Passes) ⌝ }
+    ensures { λ r. ⌜ Gives (combined (now (first .entry)) (now (second .entry)) (now (report .entry))) r (now (report .exit)) ⌝ }
+{
+    let needed = ENTRIES_AT + ENTRY_LENGTH * (entry_count(first) + entry_count(second));
+    if report.len() < needed {
+        return Answer {
+            number: 8,
+            place: needed as u64,
+            length: 0,
+        };
+    }
+    put_both(first, second, report);
+    Answer {
+        number: 0,
+        place: 0,
+        length: needed as u64,
+    }
+}
+
+// "Combining writes the well-formed report of all entries of both"
+pub fn combine(first: &[u8], second: &[u8], report: &mut [u8]) -> Answer
+    ensures { λ r. ⌜ Gives (combined (now (first .entry)) (now (second .entry)) (now (report .entry))) r (now (report .exit)) ⌝ }
+{
+    let verdict = test_combination(first, second);
+    match verdict {
+        Verdict::Passes => write_both(first, second, report),
+        Verdict::Refuses { number, place } => Answer {
+            number,
+            place,
+            length: 0,
+        },
+    }
+}
+
+// "Removal: 9, 13, 8": the last two, of a well-formed report.
+fn remove_entry(report: &[u8], number: u32, result: &mut [u8]) -> Answer
+    requires { ⌜ Readable (now report) ⌝ }
+    ensures { λ r. ⌜ Gives (removed (now (report .entry)) number (now (result .entry))) r (now (result .exit)) ⌝ }
+{
+    let n = entry_count(report);
+    let i = index_of(report, number as u64);
+    if n <= i {
+        return Answer {
+            number: 13,
+            place: number as u64,
+            length: 0,
+        };
+    }
+    let needed = ENTRIES_AT + ENTRY_LENGTH * (n - 1);
+    if result.len() < needed {
+        return Answer {
+            number: 8,
+            place: needed as u64,
+            length: 0,
+        };
+    }
+    put_others(report, i, result);
+    Answer {
+        number: 0,
+        place: 0,
+        length: needed as u64,
+    }
+}
+
+// "Removal writes the report without that entry"
+pub fn remove(report: &[u8], number: u32, result: &mut [u8]) -> Answer
+    ensures { λ r. ⌜ Gives (removed (now (report .entry)) number (now (result .entry))) r (now (result .exit)) ⌝ }
+{
+    let right = reports::is_well_formed(report);
+    if right {
+        return remove_entry(report, number, result);
+    }
+    Answer {
+        number: 9,
+        place: 1,
+        length: 0,
+    }
+}

@@ -1,0 +1,96 @@
+// A report without one of its entries: where that entry stands, and the header and the entries that are left.
+ghost use mathlib.Core.Path.{_≡_};
+ghost use Prim.Native.Nat.{_+_, _*_, _-_, _≤_, _<_};
+ghost use lib.ListN.{length};
+ghost use Rattle.basis.specs.Bytes.{Written};
+ghost use Rattle.basis.specs.First.{first};
+ghost use Rattle.meaning.specs.Report.{reportHeader, reportBytes, reportYear, reportLength, entriesAt, entryLength, entryCount};
+ghost use Rattle.meaning.specs.Report.{totals as Report·totals};
+ghost use Rattle.reports.specs.Stated.{Readable};
+ghost use Rattle.combining.specs.Entries.{entriesFrom, rows, hasNumber, otherEntries, takenAt, Takeable};
+use super::entries::entry_count;
+use super::entries::entry_number;
+use super::entries::year_of;
+use reports::ENTRIES_AT;
+use reports::ENTRY_LENGTH;
+use reports::FIGURES;
+
+// The index of the entry that has a number, or the count where none has.
+pub fn index_of(report: &[u8], number: u64) -> usize
+    requires { ⌜ Readable (now report) ⌝ }
+    ensures { λ r. ⌜ r ≡ first (hasNumber (now (report .entry)) number) (entryCount (now (report .entry))) ⌝ }
+{
+    let n = entry_count(report);
+    let mut i: usize = 0;
+    while i < n {
+        let hit = entry_number(report, i) == number;
+        if hit {
+            return i;
+        }
+        i += 1;
+    }
+    i
+}
+
+// k entries from the i-th on, carried to another report as one stretch of bytes.
+fn carry_entries(from: &[u8], i: usize, k: usize, to: &mut [u8], at: usize)
+    requires { ⌜ Readable (now from) × (i + k ≤ entryCount (now from)) × (at + entryLength * k ≤ length (now to)) ⌝ }
+    ensures { λ _. ⌜ Written (now (to .entry)) at (rows (entriesFrom (now (from .entry)) i k)) (now (to .exit)) ⌝ }
+{
+    let start = ENTRIES_AT + ENTRY_LENGTH * i;
+    let end = start + ENTRY_LENGTH * k;
+    fields::put_bytes(to, at, &from[start..end]);
+}
+
+// The entries before entry i, and those behind it.
+fn put_other_entries(report: &[u8], i: usize, result: &mut [u8])
+    requires { ⌜ Readable (now report) × (i < entryCount (now report)) × (reportLength (entryCount (now report) - 1) ≤ length (now result)) ⌝ }
+    ensures { λ _. ⌜ Written (now (result .entry)) entriesAt (rows (otherEntries (now (report .entry)) i)) (now (result .exit)) ⌝ }
+{
+    let behind = entry_count(report) - (i + 1);
+    carry_entries(report, 0, i, result, ENTRIES_AT);
+    carry_entries(report, i + 1, behind, result, ENTRIES_AT + ENTRY_LENGTH * i);
+}
+
+// The figures from a place on, each taken from its own sum.
+fn take_figures(s: &[u8], at: usize, sums: &mut [u64])
+    requires { ⌜ Takeable (now s) at (now sums) ⌝ }
+    ensures { λ _. ⌜ now (sums .exit) ≡ takenAt (now (s .entry)) at (now (sums .entry)) ⌝ }
+{
+    let mut k: usize = 0;
+    while k < sums.len() {
+        let figure = fields::u64_at(s, at + 8 * k);
+        sums[k] = sums[k] - figure;
+        k += 1;
+    }
+}
+
+// The header's totals less the figures of entry i.
+fn other_totals(report: &[u8], i: usize) -> [u64; FIGURES]
+    requires { ⌜ Readable (now report) × (i < entryCount (now report)) ⌝ }
+    ensures { λ r. ⌜ r ≡ Report·totals (otherEntries (now (report .entry)) i) ⌝ }
+{
+    let mut totals = [0u64; FIGURES];
+    reports::read_figures(report, 24, &mut totals);
+    take_figures(report, ENTRIES_AT + ENTRY_LENGTH * i + 8, &mut totals);
+    totals
+}
+
+fn put_other_header(report: &[u8], i: usize, result: &mut [u8])
+    requires { ⌜ Readable (now report) × (i < entryCount (now report)) × (entriesAt ≤ length (now result)) ⌝ }
+    ensures { λ _. ⌜ Written (now (result .entry)) 0 (reportHeader (reportYear (now (report .entry))) (otherEntries (now (report .entry)) i)) (now (result .exit)) ⌝ }
+{
+    let totals = other_totals(report, i);
+    let year = year_of(report);
+    let n = entry_count(report) - 1;
+    reports::put_header(result, year, n as u64, &totals);
+}
+
+// "Removal writes the report without that entry"
+pub fn put_others(report: &[u8], i: usize, result: &mut [u8])
+    requires { ⌜ Readable (now report) × (i < entryCount (now report)) × (reportLength (entryCount (now report) - 1) ≤ length (now result)) ⌝ }
+    ensures { λ _. ⌜ Written (now (result .entry)) 0 (reportBytes (reportYear (now (report .entry))) (otherEntries (now (report .entry)) i)) (now (result .exit)) ⌝ }
+{
+    put_other_header(report, i, result);
+    put_other_entries(report, i, result);
+}
