@@ -1,27 +1,25 @@
 -- The two calls: what each test answers, and what is answered and left where a test refuses, where there is no room, and where the call accepts. Assumes nothing.
 use mathlib.Core.Bool.{Bool, true, false, not}
-use mathlib.Core.List.{List, [], _∷_, map}
+use mathlib.Core.List.{List, map}
 use mathlib.Core.Path.{_≡_, refl, sym, ap, _∙_}
 use Prim.Native.Nat.{ℕ, _+_, _-_, _≤_, _<_}
-use native.Mathlib.Omega.{arith}
 use borrow.Author.Needs.{needs}
 use borrow.Author.Tests.{eq-eqb, ne-eqb, lt-ltb, le-ltb, ltb-false, not-false}
-use lib.Dec.{eqb, ltb}
+use lib.Dec.{ltb}
 use lib.ListN.{length, getD, List·getD-eq-default}
 use Rattle.basis.specs.declared.Verdict.{Verdict}
 use Rattle.basis.specs.declared.Verdict.the-variants.{Passes, Refuses}
 use Rattle.basis.specs.Answers.{firstRefusal, Gives}
 use Rattle.basis.specs.Bytes.{Written}
 use Rattle.basis.specs.First.{first}
-use Rattle.basis.specs.Lists.{Each, any}
 use Rattle.basis.proofs.Answers.{passed-then, refused-then, each-passes, passed-append, passed-if}
 use Rattle.meaning.specs.Register.{mostSources}
 use Rattle.meaning.specs.Report.{reportLength, reportBytes, reportYear, entryCount, entriesOf, wellFormed}
-use Rattle.meaning.specs.Calls.{formTest, yearTest, sharedAt, sharedTest, countTest, combinationTests, bothEntries, combinedReport, combined, numbered, absentTest, removalTests, removedReport, removed}
+use Rattle.meaning.specs.Calls.{formTest, sharedAt, sharedTest, combinationTests, bothEntries, combinedReport, combined, removalTests, removedReport, removed}
 use Rattle.meaning.proofs.Calls.{refused-gives, short-gives, made-gives}
 use Rattle.reports.specs.Stated.{Readable}
 use Rattle.reports.proofs.Judged.{readable}
-use Rattle.combining.specs.Entries.{formTests, entryTests, sharedNumber, Combinable, hasNumber, otherEntries}
+use Rattle.combining.specs.Entries.{formTests, entryTests, sharedNumber, Combinable, numberedAt, otherEntries}
 use Rattle.combining.proofs.Apart.{read-within, read-past}
 use Rattle.combining.proofs.Merged.{positive-numbers, massed-both, length-both}
 use Rattle.combining.proofs.Removed.{absent, present, without-is, length-others, others-massed}
@@ -146,7 +144,7 @@ module _ (b : List ℕ) (x : ℕ) (buffer : List ℕ) where
   unfolding removed firstRefusal
   removal-malformed e t = refused-gives (removalTests b x) (removedReport b x) buffer (rw (← e, t))
 
-  module _ (r : Readable b) {n i : ℕ} (e : n ≡ entryCount b) (f : i ≡ first (hasNumber b x) (entryCount b)) where
+  module _ (r : Readable b) {n i : ℕ} (e : n ≡ entryCount b) (f : i ≡ first (numberedAt b x) (entryCount b)) where
     pub removal-absent : n ≤ i → Gives (removed b x buffer) (record { number = 13; place = x; length = 0 }) buffer
     unfolding removed firstRefusal
     removal-absent l = refused-gives (removalTests b x) (removedReport b x) buffer (rw (r .right, absent b r x i f (rw e at l)))

@@ -1,8 +1,8 @@
 -- Removal: where the entry stands, the entries that are left, and the totals less its figures. Assumes nothing.
-use mathlib.Core.Bool.{Bool, true, false}
-use mathlib.Core.List.{List, _∷_, _++_}
-use mathlib.Core.Path.{_≡_, refl, sym, ap, _∙_}
-use Prim.Native.Nat.{ℕ, suc, _+_, _*_, _-_, _≤_, _<_}
+use mathlib.Core.Bool.{true, false}
+use mathlib.Core.List.{List}
+use mathlib.Core.Path.{_≡_, sym}
+use Prim.Native.Nat.{ℕ, _+_, _*_, _-_, _≤_, _<_}
 use native.Mathlib.Nat.{zero-add}
 use native.Mathlib.Numerals.{add-one}
 use native.Mathlib.Omega.{arith}
@@ -18,36 +18,36 @@ use Rattle.basis.proofs.First.{first-≤, first-hits, first-misses}
 use Rattle.basis.proofs.Lists.{each-map, each-append}
 use Rattle.basis.proofs.Rows.{write-rows}
 use Rattle.basis.proofs.Scans.{Scanning, scan-none, scan-found, scan-more, scan-all}
-use Rattle.meaning.specs.Report.{Entry, totals, entriesAt, entryLength, reportLength, reportHeader, entryBytes, reportYear, entryCount, entryAt, entryIn, entriesOf, numberBefore}
+use Rattle.meaning.specs.Report.{totals, entriesAt, entryLength, reportHeader, entryBytes, reportYear, entryCount, entryIn, entriesOf, numberBefore}
 use Rattle.meaning.specs.Calls.{numbered}
 use Rattle.fields.specs.Fields.{Field}
 use Rattle.reports.specs.Figures.{figureAt}
 use Rattle.reports.specs.Stated.{Readable, statedHeader}
 use Rattle.reports.proofs.Filling.{Filled, filled-none, filled-now, filled-more, filled-all}
 use Rattle.reports.proofs.Writing.{entry-stands}
-use Rattle.combining.specs.Entries.{entriesFrom, rows, entryNumber, hasNumber, otherEntries, takenAt, Takeable}
+use Rattle.combining.specs.Entries.{entriesFrom, rows, entryNumber, numberedAt, otherEntries, takenAt, Takeable}
 use Rattle.combining.proofs.Order.{any-none, any-between, without-between}
-use Rattle.combining.proofs.Rows.{entryOf, Massed, from-all, from-each, from-massed, length-from, length-all, rows-both, header-made, above, around}
+use Rattle.combining.proofs.Rows.{entry, Massed, from-all, from-each, from-massed, length-from, length-all, rows-both, header-made, all-above, around}
 
 -- no entry before i has the number
 pub record Finding (b : List ℕ) (x n i : ℕ) : Type 0 where
   pub whole : n ≡ entryCount b
-  pub scanning : Scanning (hasNumber b x) (entryCount b) i
+  pub scanning : Scanning (numberedAt b x) (entryCount b) i
 
 pub finding-none : {b : List ℕ} {n : ℕ} (x : ℕ) → n ≡ entryCount b → Finding b x n 0
 finding-none x e = record { whole = e; scanning = scan-none }
 
 module _ {b : List ℕ} {x n i : ℕ} (f : Finding b x n i) where
   module _ (l : i < n) {y : ℕ} (e : y ≡ entryNumber b i) where
-    pub finding-hit : eqb y x ≡ true → i ≡ first (hasNumber b x) (entryCount b)
-    unfolding hasNumber
+    pub finding-hit : eqb y x ≡ true → i ≡ first (numberedAt b x) (entryCount b)
+    unfolding numberedAt
     finding-hit h = scan-found (f .scanning) (rw (f .whole) at l) (rw e at h)
 
     pub finding-more : eqb y x ≡ false → Finding b x n (i + 1)
-    unfolding hasNumber
+    unfolding numberedAt
     finding-more h = record { whole = f .whole; scanning = scan-more (f .scanning) (rw (f .whole) at l) (rw e at h) }
 
-  pub finding-all : n ≤ i → i ≡ first (hasNumber b x) (entryCount b)
+  pub finding-all : n ≤ i → i ≡ first (numberedAt b x) (entryCount b)
   finding-all l = scan-all (f .scanning) (rw (f .whole) at l)
 
 pub ruleset finding = (needs, finding-none, finding-hit, finding-more, finding-all)
@@ -108,33 +108,33 @@ pub other-header : (b : List ℕ) (i : ℕ) {y n : ℕ} {ts xs ys : List ℕ} �
 other-header b i l d e t w = header-made (reportYear b) (otherEntries b i) d (rw e (sym (length-others b i l))) t w
 
 -- the number that was looked for
-module _ (b : List ℕ) (r : Readable b) (x i : ℕ) (e : i ≡ first (hasNumber b x) (entryCount b)) where
+module _ (b : List ℕ) (r : Readable b) (x i : ℕ) (e : i ≡ first (numberedAt b x) (entryCount b)) where
   before-not : Each (λ z. numbered x z ≡ false) (entriesFrom b 0 i)
-  unfolding hasNumber entryNumber
-  before-not = from-each b (λ z. numbered x z ≡ false) i 0 (λ j p q. first-misses (hasNumber b x) (entryCount b) j (rw e at (rw (zero-add i) at q)))
+  unfolding numberedAt entryNumber
+  before-not = from-each b (λ z. numbered x z ≡ false) i 0 (λ j p q. first-misses (numberedAt b x) (entryCount b) j (rw e at (rw (zero-add i) at q)))
 
   pub absent : entryCount b ≤ i → any (numbered x) (entriesOf b) ≡ false
   absent l =
-      let q : i ≡ entryCount b = omega (arith, e, first-≤ (hasNumber b x) (entryCount b)) in
+      let q : i ≡ entryCount b = omega (arith, e, first-≤ (numberedAt b x) (entryCount b)) in
       any-none (numbered x) (entriesOf b) (rw (q, from-all b) at before-not)
 
   module _ (l : i < entryCount b) where
-    hit : numbered x (entryOf b i) ≡ true
-    unfolding hasNumber entryNumber
-    hit = rw e (first-hits (hasNumber b x) (entryCount b) (rw e at l))
+    hit : numbered x (entry b i) ≡ true
+    unfolding numberedAt entryNumber
+    hit = rw e (first-hits (numberedAt b x) (entryCount b) (rw e at l))
 
     behind-not : Each (λ z. numbered x z ≡ false) (entriesFrom b (i + 1) (entryCount b - (i + 1)))
     unfolding numberBefore
     behind-not =
-        let same : entryOf b i .number ≡ x = eqb-true (entryOf b i .number) x hit in
+        let same : entry b i .number ≡ x = eqb-true (entry b i .number) x hit in
         each-map (λ z m. ne-eqb (z .number) x (λ f. absurd (omega arith))) (entriesFrom b (i + 1) (entryCount b - (i + 1)))
-        (above b r x (entryCount b - (i + 1)) (i + 1) (omega arith) (rw (add-one i) (omega arith)))
+        (all-above b r x (entryCount b - (i + 1)) (i + 1) (omega arith) (rw (add-one i) (omega arith)))
 
     pub present : any (numbered x) (entriesOf b) ≡ true
-    present = rw (around b r i l) (any-between (numbered x) (entriesFrom b 0 i) (entryOf b i) (entriesFrom b (i + 1) (entryCount b - (i + 1))) hit)
+    present = rw (around b r i l) (any-between (numbered x) (entriesFrom b 0 i) (entry b i) (entriesFrom b (i + 1) (entryCount b - (i + 1))) hit)
 
     pub without-is : without (numbered x) (entriesOf b) ≡ otherEntries b i
     unfolding otherEntries
     without-is =
         rw (around b r i l)
-        (without-between (numbered x) (entriesFrom b 0 i) (entryOf b i) (entriesFrom b (i + 1) (entryCount b - (i + 1))) before-not hit behind-not)
+        (without-between (numbered x) (entriesFrom b 0 i) (entry b i) (entriesFrom b (i + 1) (entryCount b - (i + 1))) before-not hit behind-not)

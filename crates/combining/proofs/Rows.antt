@@ -1,32 +1,32 @@
 -- The entries of a well-formed report from an index on: how they ascend, how long their bytes are, and their totals. Assumes nothing.
 use mathlib.Core.List.{List, [], _∷_, _++_, map, append-assoc}
 use mathlib.Core.Path.{_≡_, refl, sym, ap, _∙_}
-use Prim.Native.Nat.{ℕ, zero, suc, _+_, _*_, _-_, _^_, _≤_, _<_}
-use native.Mathlib.Nat.{add-assoc, add-zero, zero-add}
+use Prim.Native.Nat.{ℕ, zero, suc, _+_, _*_, _-_, _≤_, _<_}
+use native.Mathlib.Nat.{add-zero, zero-add}
 use native.Mathlib.Numerals.{add-one}
 use native.Mathlib.Omega.{arith}
-use lib.ListN.{length, getD, take, drop, length-append, length-map, length-drop}
-use Rattle.basis.specs.Bytes.{Bytes, bytesOf, numberAt, packed, Written}
+use lib.ListN.{length, getD, length-append, length-map}
+use Rattle.basis.specs.Bytes.{bytesOf, packed, Written}
 use Rattle.basis.specs.Lists.{Each, sum, countUp, joined}
 use Rattle.basis.proofs.Bytes.{written-then}
-use Rattle.basis.proofs.Counting.{counted-list, sum-bounded}
+use Rattle.basis.proofs.Counting.{sum-bounded}
 use Rattle.basis.proofs.Lists.{length-countUp}
-use Rattle.basis.proofs.Rows.{numberAt-drop, write-rows, length-rows, bytes-drop}
+use Rattle.basis.proofs.Rows.{numberAt-drop, length-rows}
 use Rattle.meaning.specs.Masses.{gasCount, limit}
-use Rattle.meaning.specs.Register.{mostSources}
-use Rattle.meaning.specs.Report.{Entry, figures, figureCount, figure, totals, entriesAt, entryLength, reportLength, reportHeader, entryBytes, reportBytes, entryCount, entryAt, entryIn, entriesOf, inOrder, totalAt, figureIn, numberBefore}
+use Rattle.meaning.specs.Report.{Entry, figures, figureCount, figure, totals, entriesAt, entryLength, reportLength, reportHeader, entryBytes, reportBytes, entryCount, entryAt, entryIn, entriesOf, inOrder, numberBefore}
 use Rattle.meaning.specs.Calls.{bothEntries}
-use Rattle.meaning.proofs.Reports.{Formed, formed, length-masses, length-figures, figure-bounded, figure-read, entry-again, length-totals, total-is, totals-read}
+use Rattle.meaning.proofs.Reports.{Formed, formed, length-masses, length-figures, length-totals, total-is, totals-by, total-read, totals-read, sum-both}
 use Rattle.fields.specs.Fields.{Field}
 use Rattle.reports.specs.Figures.{figureAt, figuresAt, addedAt, Addable}
-use Rattle.reports.specs.Stated.{Readable, figureBytes, statedEntry, statedFront, statedHeader}
+use Rattle.reports.specs.Stated.{Readable, statedEntry, statedFront, statedHeader}
+use Rattle.reports.proofs.Entries.{figure-stands, figure-small}
 use Rattle.reports.proofs.Writing.{length-figureBytes, entry-stated, header-stated}
-use Rattle.combining.specs.Entries.{entriesFrom, rows, entryNumber, Combinable, otherEntries, takenAt, Takeable}
-use Rattle.combining.proofs.Order.{sum-both, sum-sorted}
+use Rattle.combining.specs.Entries.{entriesFrom, rows, entryNumber, otherEntries, takenAt, Takeable}
+use Rattle.combining.proofs.Order.{sum-sorted}
 
 -- an entry, its number as it is read, and its masses
-abbrev pub entryOf : List ℕ → ℕ → Entry
-entryOf b i = entryIn (entryAt b i)
+abbrev pub entry : List ℕ → ℕ → Entry
+entry b i = entryIn (entryAt b i)
 
 pub number-read : (b : List ℕ) (i : ℕ) {n : ℕ} → Field 4 b (entriesAt + entryLength * i) n → n ≡ entryNumber b i
 unfolding entryNumber entryIn
@@ -37,7 +37,7 @@ module _ (b : List ℕ) where
   unfolding entriesFrom countUp
   from-none i = refl
 
-  pub from-more : (i k : ℕ) → entriesFrom b i (suc k) ≡ entryOf b i ∷ entriesFrom b (i + 1) k
+  pub from-more : (i k : ℕ) → entriesFrom b i (suc k) ≡ entry b i ∷ entriesFrom b (i + 1) k
   unfolding entriesFrom countUp
   from-more i k = refl
 
@@ -58,7 +58,7 @@ module _ (b : List ℕ) where
   length-from i k = length-map (countUp i k) (λ j. entryIn (entryAt b j)) ∙ length-countUp i k
 
   -- what holds at each index holds of each entry
-  pub from-each : (P : Entry → Type 0) (k i : ℕ) → ((j : ℕ) → i ≤ j → j < i + k → P (entryOf b j)) → Each P (entriesFrom b i k)
+  pub from-each : (P : Entry → Type 0) (k i : ℕ) → ((j : ℕ) → i ≤ j → j < i + k → P (entry b j)) → Each P (entriesFrom b i k)
   unfolding entriesFrom countUp
   from-each P zero i h = tt
   from-each P (suc k) i h = (h i (omega arith) (omega arith), from-each P k (i + 1) (λ j l m. h j (omega arith) (omega arith)))
@@ -112,103 +112,80 @@ module _ (b : List ℕ) (r : Readable b) where
   whole = formed b (r .right)
 
   -- numbers ascend: from an index on, all are above whatever the number before is not below
-  pub above : (n k i : ℕ) → i + k ≤ entryCount b → n ≤ numberBefore b i → Each (λ e. n < e .number) (entriesFrom b i k)
+  pub all-above : (n k i : ℕ) → i + k ≤ entryCount b → n ≤ numberBefore b i → Each (λ e. n < e .number) (entriesFrom b i k)
   unfolding entriesFrom countUp numberBefore
-  above n zero i h l = tt
-  above n (suc k) i h l =
+  all-above n zero i h l = tt
+  all-above n (suc k) i h l =
       let a = whole .entry i (omega arith) .above in
-      (omega (arith, a), above n k (i + 1) (omega arith) (rw (add-one i) (omega (arith, a))))
+      (omega (arith, a), all-above n k (i + 1) (omega arith) (rw (add-one i) (omega (arith, a))))
 
   -- an entry stands between those before it and those behind it
-  pub around : (i : ℕ) → i < entryCount b → entriesOf b ≡ entriesFrom b 0 i ++ entryOf b i ∷ entriesFrom b (i + 1) (entryCount b - (i + 1))
+  pub around : (i : ℕ) → i < entryCount b → entriesOf b ≡ entriesFrom b 0 i ++ entry b i ∷ entriesFrom b (i + 1) (entryCount b - (i + 1))
   around i l =
       by (entryCount b - (i + 1)) (omega arith)
     where
-      by : (k : ℕ) → entryCount b ≡ i + suc k → entriesOf b ≡ entriesFrom b 0 i ++ entryOf b i ∷ entriesFrom b (i + 1) k
+      by : (k : ℕ) → entryCount b ≡ i + suc k → entriesOf b ≡ entriesFrom b 0 i ++ entry b i ∷ entriesFrom b (i + 1) k
       by k q = sym (from-all b) ∙ ap (entriesFrom b 0) q ∙ from-split b 0 i (suc k) ∙ rw (zero-add i, from-more b i k)
-
-  -- the figures of an entry, as they are read
-  pub figure-stands : (i k : ℕ) → i < entryCount b → k < figureCount → figureAt b (entriesAt + entryLength * i + 8) k ≡ figure k (entryOf b i)
-  figure-stands i k l m =
-      let at = entriesAt + entryLength * i in
-      let f : numberAt 8 b (at + (8 + 8 * k)) ≡ figureIn (entryAt b i) k = sym (numberAt-drop 8 b at (8 + 8 * k)) in
-      rw (add-assoc at 8 (8 * k)) f ∙ sym (figure-read (entryAt b i) (whole .entry i l .right) k m)
 
   -- totals, as a header states them
   pub totals-stand : {ts : List ℕ} → ts ≡ figuresAt figureCount b 24 → ts ≡ totals (entriesOf b)
   unfolding figuresAt
   totals-stand e = e ∙ sym (totals-read b whole)
 
-  total-stands : (k : ℕ) → k < figureCount → figureAt b 24 k ≡ sum (map (figure k) (entriesOf b))
-  total-stands k l = whole .total k l ∙ total-is (entriesOf b) k l
-
-  figure-small : (k i : ℕ) → i < entryCount b → figure k (entryOf b i) ≤ limit
-  figure-small k i l =
-      let g : length (entryOf b i .masses) ≤ gasCount = omega (arith, length-masses (entryAt b i)) in
-      omega (arith, figure-bounded k (entryOf b i) g, whole .entry i l .kept)
-
   total-small : (k : ℕ) → sum (map (figure k) (entriesOf b)) ≤ limit * entryCount b
   total-small k =
-      let p : Each (λ e. figure k e ≤ limit) (entriesFrom b 0 (entryCount b)) = from-each b (λ e. figure k e ≤ limit) (entryCount b) 0 (λ j l m. figure-small k j (omega arith)) in
+      let p = from-each b (λ e. figure k e ≤ limit) (entryCount b) 0 (λ j l m. figure-small (whole .entry j (omega arith)) k) in
       rw (length-from b 0 (entryCount b), from-all b) at (sum-bounded (figure k) (λ e. figure k e ≤ limit) limit (λ e l. l) (entriesFrom b 0 (entryCount b)) p)
 
--- figures that are the totals of entries, one by one
-totals-by : (f : ℕ → ℕ) (es : List Entry) → ((k : ℕ) → k < figureCount → f k ≡ sum (map (figure k) es)) → map f (countUp 0 figureCount) ≡ totals es
-totals-by f es h =
-    rw (length-totals es) at
-    (counted-list f 0 (totals es) 0
-    (λ k l. let m : k < figureCount = rw (length-totals es) at l in ap f (zero-add k) ∙ h k m ∙ sym (total-is es k m)))
+-- the totals that were read of a report
+module _ {b ts : List ℕ} (r : Readable b) (e : ts ≡ figuresAt figureCount b 24) where
+  length-stated : length ts ≡ figureCount
+  length-stated = rw (totals-stand b r e) (length-totals (entriesOf b))
 
--- "nothing leaves 64 bits": the totals of both together
-module _ (one other : List ℕ) (c : Combinable one other) {ts : List ℕ} (e : ts ≡ figuresAt figureCount one 24) where
-  of-one : (k : ℕ) → k < figureCount → getD ts k 0 ≡ sum (map (figure k) (entriesOf one))
-  of-one k l = rw (totals-stand one (c .first) e) (total-is (entriesOf one) k l)
+  stated-is : (k : ℕ) → k < figureCount → getD ts k 0 ≡ sum (map (figure k) (entriesOf b))
+  stated-is k l = rw (totals-stand b r e) (total-is (entriesOf b) k l)
 
-  length-one : length ts ≡ figureCount
-  length-one = rw (totals-stand one (c .first) e) (length-totals (entriesOf one))
-
+-- the totals of two reports together; no sum leaves 64 bits
+module _ (one other : List ℕ) (r : Readable one) (s : Readable other) {ts : List ℕ} (e : ts ≡ figuresAt figureCount one 24) where
   pub both-fit : Addable other 24 ts
   both-fit =
       record {
-        stand = omega (arith, length-one, c .second .filled);
+        stand = omega (arith, length-stated r e, s .filled);
         fit = λ k l.
-            let m : k < figureCount = rw length-one at l in
-            omega (arith, of-one k m, total-stands other (c .second) k m, total-small one (c .first) k, total-small other (c .second) k, c .few);
+            let m : k < figureCount = rw (length-stated r e) at l in
+            omega (arith, stated-is r e k m, total-read other (whole other s) k m, total-small one r k, total-small other s k, r .few, s .few);
       }
 
   pub both-added : {us : List ℕ} → us ≡ addedAt other 24 ts → us ≡ totals (bothEntries one other)
   unfolding addedAt bothEntries inOrder
   both-added u =
-      u ∙ rw length-one
+      u ∙ rw (length-stated r e)
       (totals-by (λ k. getD ts k 0 + figureAt other 24 k) (bothEntries one other)
-      (λ k l. rw (of-one k l, total-stands other (c .second) k l)
+      (λ k l. rw (stated-is r e k l, total-read other (whole other s) k l)
       (sym (sum-sorted (λ e. e .number) (figure k) (entriesOf one ++ entriesOf other) ∙ sum-both (figure k) (entriesOf one) (entriesOf other)))))
 
--- and those without an entry
+-- and those of a report less the figures of an entry
 module _ (b : List ℕ) (i : ℕ) (r : Readable b × (i < entryCount b)) {ts : List ℕ} (e : ts ≡ figuresAt figureCount b 24) where
-  parts : (k : ℕ) → k < figureCount → getD ts k 0 ≡ sum (map (figure k) (otherEntries b i)) + figure k (entryOf b i)
+  stated : (k : ℕ) → k < figureCount → figureAt b (entriesAt + entryLength * i + 8) k ≡ figure k (entry b i)
+  stated k l = figure-stands (whole b (r .0) .entry i (r .1)) k l
+
+  parts : (k : ℕ) → k < figureCount → getD ts k 0 ≡ sum (map (figure k) (otherEntries b i)) + figure k (entry b i)
   unfolding otherEntries sum
   parts k l =
       let front = entriesFrom b 0 i in
       let back = entriesFrom b (i + 1) (entryCount b - (i + 1)) in
-      let t : getD ts k 0 ≡ sum (map (figure k) (entriesOf b)) = rw (totals-stand b (r .0) e) (total-is (entriesOf b) k l) in
-      t ∙ rw (around b (r .0) i (r .1), sum-both (figure k) front (entryOf b i ∷ back), sum-both (figure k) front back) (omega arith)
-
-  length-all-totals : length ts ≡ figureCount
-  length-all-totals = rw (totals-stand b (r .0) e) (length-totals (entriesOf b))
+      stated-is (r .0) e k l
+      ∙ rw (around b (r .0) i (r .1), sum-both (figure k) front (entry b i ∷ back), sum-both (figure k) front back) (omega arith)
 
   pub others-held : Takeable b (entriesAt + entryLength * i + 8) ts
   others-held =
       record {
-        stand = omega (arith, length-all-totals, r .0 .filled, r .1);
-        held = λ k l.
-            let m : k < figureCount = rw length-all-totals at l in
-            omega (arith, parts k m, figure-stands b (r .0) i k (r .1) m);
+        stand = omega (arith, length-stated (r .0) e, r .0 .filled, r .1);
+        held = λ k l. let m : k < figureCount = rw (length-stated (r .0) e) at l in omega (arith, parts k m, stated k m);
       }
 
   pub others-taken : {us : List ℕ} → us ≡ takenAt b (entriesAt + entryLength * i + 8) ts → us ≡ totals (otherEntries b i)
   unfolding takenAt
   others-taken u =
-      u ∙ rw length-all-totals
-      (totals-by (λ k. getD ts k 0 - figureAt b (entriesAt + entryLength * i + 8) k) (otherEntries b i)
-      (λ k l. rw (parts k l, figure-stands b (r .0) i k (r .1) l) (omega arith)))
+      u ∙ rw (length-stated (r .0) e)
+      (totals-by (λ k. getD ts k 0 - figureAt b (entriesAt + entryLength * i + 8) k) (otherEntries b i) (λ k l. rw (parts k l, stated k l) (omega arith)))

@@ -1,4 +1,4 @@
-// The entries of a well-formed report: how many there are, and their numbers.
+// What both calls read of a well-formed report: its year, its count, and the number of an entry.
 ghost use mathlib.Core.Path.{_≡_};
 ghost use Prim.Native.Nat.{_<_};
 ghost use Rattle.meaning.specs.Report.{reportYear, entryCount};
@@ -7,8 +7,8 @@ ghost use Rattle.combining.specs.Entries.{entryNumber};
 use reports::ENTRIES_AT;
 use reports::ENTRY_LENGTH;
 
-// As many entries as a report may have.
-pub const MOST: usize = 512;
+// Where a report's header states its totals.
+pub const TOTALS_AT: usize = 24;
 
 pub fn year_of(report: &[u8]) -> u64
     requires { ⌜ Readable (now report) ⌝ }

@@ -11,7 +11,6 @@ ghost use Rattle.reports.specs.Stated.{Readable};
 ghost use Rattle.combining.specs.Entries.{formTests, entryTests, Combinable};
 use basis::Answer;
 use basis::Verdict;
-use entries::MOST;
 use entries::entry_count;
 use entries::year_of;
 use merging::put_both;
@@ -20,6 +19,9 @@ use removal::index_of;
 use removal::put_others;
 use reports::ENTRIES_AT;
 use reports::ENTRY_LENGTH;
+
+// As many entries as a report may have.
+const MOST: usize = 512;
 
 // "9 for the first, 9 for the second"
 fn test_forms(first: &[u8], second: &[u8]) -> Verdict

@@ -7,7 +7,8 @@ ghost use Rattle.basis.specs.First.{first};
 ghost use Rattle.meaning.specs.Report.{reportHeader, reportBytes, reportYear, reportLength, entriesAt, entryLength, entryCount};
 ghost use Rattle.meaning.specs.Report.{totals as Report·totals};
 ghost use Rattle.reports.specs.Stated.{Readable};
-ghost use Rattle.combining.specs.Entries.{entriesFrom, rows, hasNumber, otherEntries, takenAt, Takeable};
+ghost use Rattle.combining.specs.Entries.{entriesFrom, rows, numberedAt, otherEntries, takenAt, Takeable};
+use super::entries::TOTALS_AT;
 use super::entries::entry_count;
 use super::entries::entry_number;
 use super::entries::year_of;
@@ -18,7 +19,7 @@ use reports::FIGURES;
 // The index of the entry that has a number, or the count where none has.
 pub fn index_of(report: &[u8], number: u64) -> usize
     requires { ⌜ Readable (now report) ⌝ }
-    ensures { λ r. ⌜ r ≡ first (hasNumber (now (report .entry)) number) (entryCount (now (report .entry))) ⌝ }
+    ensures { λ r. ⌜ r ≡ first (numberedAt (now (report .entry)) number) (entryCount (now (report .entry))) ⌝ }
 {
     let n = entry_count(report);
     let mut i: usize = 0;
@@ -71,7 +72,7 @@ fn other_totals(report: &[u8], i: usize) -> [u64; FIGURES]
     ensures { λ r. ⌜ r ≡ Report·totals (otherEntries (now (report .entry)) i) ⌝ }
 {
     let mut totals = [0u64; FIGURES];
-    reports::read_figures(report, 24, &mut totals);
+    reports::read_figures(report, TOTALS_AT, &mut totals);
     take_figures(report, ENTRIES_AT + ENTRY_LENGTH * i + 8, &mut totals);
     totals
 }

@@ -165,10 +165,17 @@ pub total-is : (es : List Entry) (k : ℕ) → k < figureCount → getD (totals 
 unfolding totals
 total-is es k l = at-counted (λ k. sum (map (figure k) es)) 0 figureCount k l
 
+-- numbers that are the totals of entries, one by one
+pub totals-by : (f : ℕ → ℕ) (es : List Entry) → ((k : ℕ) → k < figureCount → f k ≡ sum (map (figure k) es)) → map f (countUp 0 figureCount) ≡ totals es
+totals-by f es h =
+    let n = length-totals es in
+    rw n at (counted-all f 0 (totals es) (λ k l. let m : k < figureCount = rw n at l in h k m ∙ sym (total-is es k m)))
+
+pub total-read : (b : List ℕ) → Formed b → (k : ℕ) → k < figureCount → totalAt b k ≡ sum (map (figure k) (entriesOf b))
+total-read b f k l = f .total k l ∙ total-is (entriesOf b) k l
+
 pub totals-read : (b : List ℕ) → Formed b → totals (entriesOf b) ≡ map (totalAt b) (countUp 0 figureCount)
-totals-read b f =
-    let n = length-totals (entriesOf b) in
-    sym (rw n at (counted-all (totalAt b) 0 (totals (entriesOf b)) (λ i l. f .total i (rw n at l))))
+totals-read b f = sym (totals-by (totalAt b) (entriesOf b) (total-read b f))
 
 pub total-more : (es : List Entry) (e : Entry) (k : ℕ) → k < figureCount → getD (totals (es ++ (e ∷ []))) k 0 ≡ getD (totals es) k 0 + figure k e
 unfolding sum

@@ -14,7 +14,8 @@ use Rattle.basis.proofs.Bools.{or-true}
 use Rattle.basis.proofs.Rows.{numberAt-drop}
 use Rattle.meaning.specs.Methods.{within}
 use Rattle.meaning.specs.Masses.{gasCount, equivalent, limit}
-use Rattle.meaning.specs.Report.{entriesAt, entryLength, entryAt, figureIn, entryIn, numberBefore, wrongEntry}
+use Rattle.meaning.specs.Report.{figureCount, figure, entriesAt, entryLength, entryAt, figureIn, entryIn, numberBefore, wrongEntry}
+use Rattle.meaning.proofs.Reports.{RightEntry, length-masses, figure-bounded, figure-read}
 use Rattle.fields.specs.Fields.{Field}
 use Rattle.exact.specs.declared.Weighed.{Weighed}
 use Rattle.exact.specs.declared.Weighed.the-variants.{Within, Above}
@@ -75,3 +76,16 @@ entry-judged b i {before} {number} {method} {zeros} e n m z u =
     let s : numberAt 3 r 5 ≡ zeros = sym (field-drop at 5 z) in
     rw (u, p, q, s, ← e)
     (sym (or-assoc (leb number before || not (within 1 6 method) || not (eqb zeros 0)) (not (eqb (figureIn r gasCount) (equivalent (entryIn r .masses)))) (ltb limit (equivalent (entryIn r .masses)))))
+
+-- the figures of a right entry, as they are read; none is above the limit
+module _ {b : List ℕ} {i : ℕ} (e : RightEntry b i) where
+  pub figure-stands : (k : ℕ) → k < figureCount → figureAt b (entriesAt + entryLength * i + 8) k ≡ figure k (entryIn (entryAt b i))
+  figure-stands k m =
+      let at = entriesAt + entryLength * i in
+      let f : numberAt 8 b (at + (8 + 8 * k)) ≡ figureIn (entryAt b i) k = sym (numberAt-drop 8 b at (8 + 8 * k)) in
+      rw (add-assoc at 8 (8 * k)) f ∙ sym (figure-read (entryAt b i) (e .right) k m)
+
+  pub figure-small : (k : ℕ) → figure k (entryIn (entryAt b i)) ≤ limit
+  figure-small k =
+      let g : length (entryIn (entryAt b i) .masses) ≤ gasCount = omega (arith, length-masses (entryAt b i)) in
+      omega (arith, figure-bounded k (entryIn (entryAt b i)) g, e .kept)

@@ -11,14 +11,14 @@ use lib.Dec.{eqb}
 use lib.ListN.{length, getD}
 use Rattle.basis.specs.Bytes.{numberAt}
 use Rattle.basis.specs.Lists.{sum, countUp, any}
-use Rattle.basis.proofs.Counting.{counted-list}
 use Rattle.basis.proofs.Rows.{numberAt-drop}
-use Rattle.meaning.specs.Masses.{gasCount, limit}
+use Rattle.meaning.specs.Masses.{limit}
 use Rattle.meaning.specs.Register.{mostSources}
-use Rattle.meaning.specs.Report.{Entry, figureCount, figure, totals, entriesAt, entryLength, reportLength, entryCount, entryAt, figureIn, entryIn, entriesOf, numberBefore, wrongEntry, wrongTotal}
-use Rattle.meaning.proofs.Reports.{RightEntry, right-entry, length-masses, figure-bounded, figure-read, length-totals, total-is, total-more}
+use Rattle.meaning.specs.Report.{Entry, figureCount, figure, totals, entriesAt, entryLength, reportLength, entryCount, entryAt, entryIn, entriesOf, numberBefore, wrongEntry, wrongTotal}
+use Rattle.meaning.proofs.Reports.{RightEntry, right-entry, length-totals, total-is, totals-by, total-more}
 use Rattle.fields.specs.Fields.{Field}
 use Rattle.reports.specs.Figures.{figureAt, addedAt, Addable}
+use Rattle.reports.proofs.Entries.{figure-stands, figure-small}
 
 -- no index below i has the test, and the later ones decide
 pub record Searched (test : ℕ → Bool) (n i : ℕ) : Type 0 where
@@ -108,22 +108,14 @@ module _ {b : List ℕ} {n : ℕ} {ts : List ℕ} {before i : ℕ} (c : Checked 
       entry-right : RightEntry b i
       entry-right = right-entry b i (sym e ∙ t)
 
-      figure-is : (k : ℕ) → k < figureCount → figureAt b (entriesAt + entryLength * i + 8) k ≡ figure k (entryIn (entryAt b i))
-      figure-is k m =
-          let at = entriesAt + entryLength * i in
-          let f : numberAt 8 b (at + (8 + 8 * k)) ≡ figureIn (entryAt b i) k = sym (numberAt-drop 8 b at (8 + 8 * k)) in
-          rw (add-assoc at 8 (8 * k)) f ∙ sym (figure-read (entryAt b i) (entry-right .right) k m)
-
-      figure-small : (k : ℕ) → k < figureCount → figureAt b (entriesAt + entryLength * i + 8) k ≤ limit
-      figure-small k m =
-          let g : length (entryIn (entryAt b i) .masses) ≤ gasCount = omega (arith, length-masses (entryAt b i)) in
-          rw (figure-is k m) (omega (arith, figure-bounded k (entryIn (entryAt b i)) g, entry-right .kept))
+      stated-small : (k : ℕ) → k < figureCount → figureAt b (entriesAt + entryLength * i + 8) k ≤ limit
+      stated-small k m = rw (figure-stands entry-right k m) (figure-small entry-right k)
 
       pub checked-adds : Addable b (entriesAt + entryLength * i + 8) ts
       checked-adds =
           record {
             stand = omega (arith, p .0, checked-length);
-            fit = λ k m. let q : k < figureCount = rw (sym checked-length) at m in omega (arith, c .small k q, figure-small k q, p .1);
+            fit = λ k m. let q : k < figureCount = rw (sym checked-length) at m in omega (arith, c .small k q, stated-small k q, p .1);
           }
 
       pub checked-more : {next : ℕ} {us : List ℕ} → us ≡ addedAt b (entriesAt + entryLength * i + 8) ts → Field 4 b (entriesAt + entryLength * i) next
@@ -134,16 +126,14 @@ module _ {b : List ℕ} {n : ℕ} {ts : List ℕ} {before i : ℕ} (c : Checked 
           let es = entriesTo b (i + 1) in
           let s : es ≡ entriesTo b i ++ (entryIn (entryAt b i) ∷ []) = rw (add-one i) (rw (zero-add i) at (counted-more (λ j. entryIn (entryAt b j)) i 0)) in
           let each : (k : ℕ) → k < figureCount → getD ts k 0 + figureAt b (at + 8) k ≡ getD (totals es) k 0 =
-          λ k m. rw (s, total-more (entriesTo b i) (entryIn (entryAt b i)) k m, ← c .sums, figure-is k m) in
+          λ k m. rw (s, total-more (entriesTo b i) (entryIn (entryAt b i)) k m, ← c .sums, figure-stands entry-right k m) in
           let made : addedAt b (at + 8) ts ≡ totals es =
-          rw (length-totals es ∙ checked-length) at
-          (counted-list (λ k. getD ts k 0 + figureAt b (at + 8) k) 0 (totals es) 0
-          (λ k m. ap (λ (x : ℕ). getD ts x 0 + figureAt b (at + 8) x) (zero-add k) ∙ each k (rw (length-totals es) at m))) in
+          rw (← checked-length) (totals-by (λ k. getD ts k 0 + figureAt b (at + 8) k) es (λ k m. each k m ∙ total-is es k m)) in
           record {
             searched = searched-more (c .searched) l (sym e ∙ t);
             prior = f .is ∙ rw (add-one i, numberAt-drop 4 b at 0, add-zero);
             sums = u ∙ made;
-            small = λ k m. rw (u ∙ made, ← each k m) (omega (arith, c .small k m, figure-small k m));
+            small = λ k m. rw (u ∙ made, ← each k m) (omega (arith, c .small k m, stated-small k m));
           }
 
   pub checked-totals : Counted b n → n ≤ i → ts ≡ totals (entriesOf b)
