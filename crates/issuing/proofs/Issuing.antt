@@ -72,7 +72,7 @@ module _ {b keys stored : List ℕ} {k : ℕ} (r : Ready b keys stored) (l : k <
       let s : take (figureCount * index + figureCount - figureCount * index) (drop (figureCount * index) stored) ≡ figures e = rw q (r .stored index (known .below)) in
       rw (n, m, s, entry-stated e (length-massesOf (sourceAt b index))) at w
 
-pub ruleset issuingOne = (needs, key-there, method-there, figures-there, entry-issued)
+pub ruleset entering = (needs, key-there, method-there, figures-there, entry-issued)
 
 -- the entries of keys, one behind another
 unfoldable pub issued : List ℕ → List ℕ → List ℕ

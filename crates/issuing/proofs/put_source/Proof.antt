@@ -1,5 +1,5 @@
 use borrow.Author.Needs.{needs}
-use Rattle.issuing.proofs.Issuing.{issuingOne}
+use Rattle.issuing.proofs.Issuing.{entering}
 use Rattle.issuing.proofs.put_source.Statement.{statement}
 use Rattle.issuing.proofs.put_source.Tie as tie
 
@@ -8,11 +8,11 @@ put-source-spec =
     tie.close
     (tie.spec
     (search needs)
-    (λ c. search issuingOne)
+    (λ c. search entering)
     (search needs)
     (search needs)
     (search needs)
-    (λ c κs. search issuingOne)
+    (λ c κs. search entering)
     (search needs)
     (search needs)
     (search needs)
@@ -20,7 +20,7 @@ put-source-spec =
     (search needs)
     (search needs)
     (search needs)
-    (λ c. search issuingOne)
+    (λ c. search entering)
     (search needs)
     (search needs)
-    (λ c. search issuingOne))
+    (λ c. search entering))
