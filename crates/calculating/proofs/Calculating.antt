@@ -5,10 +5,11 @@ use mathlib.Core.Path.{_≡_, refl, sym, ap, _∙_}
 use Prim.Native.Nat.{ℕ, _+_, _*_, _≤_, _<_}
 use native.Mathlib.Omega.{arith}
 use borrow.Author.Needs.{needs}
-use borrow.Author.Tests.{ltb-false}
+use borrow.Author.Tests.{ltb-false, le-ltb}
 use lib.Dec.{ltb}
 use lib.ListN.{length, take, drop, length-map}
 use lib.Seq.{take-at}
+use Rattle.fields.specs.Fields.{Field}
 use Rattle.basis.specs.declared.Answer.{Answer}
 use Rattle.basis.specs.declared.Verdict.{Verdict}
 use Rattle.basis.specs.declared.Verdict.the-variants.{Passes, Refuses}
@@ -18,16 +19,19 @@ use Rattle.basis.specs.Answers.{firstRefusal, answer, Gives}
 use Rattle.basis.proofs.Answers.{passed-then, refused-then, each-passes}
 use Rattle.basis.proofs.Lists.{sortedBy-each, length-sortedBy}
 use Rattle.meaning.specs.Masses.{belowZero, masses, equivalent, limit}
-use Rattle.meaning.specs.Register.{Source, yearOf, sourceCount, sourceAt, sourcesOf, decodedLines, registerTests}
+use Rattle.meaning.specs.Register.{Source, yearOf, sourceCount, mostSources, sourcesAt, sourceAt, sourcesOf, decodedLines, registerTests}
 use Rattle.meaning.specs.Report.{Entry, entryOf, inOrder, figureCount, reportLength, reportBytes}
 use Rattle.meaning.specs.Calls.{lineTest, massFault, massTest, entriesFor, calculationTests, calculatedReport, calculated}
 use Rattle.meaning.proofs.Calls.{refused-gives, short-gives, made-gives}
 use Rattle.meaning.proofs.Laws.{one-entry-each}
 use Rattle.meaning.proofs.Lengths.{Massed, source-massed, length-report}
+use Rattle.meaning.proofs.Registers.{right-register}
 use Rattle.meaning.proofs.Sources.{length-sources}
-use Rattle.registers.specs.Keys.{sortedKeys, Tested}
+use Rattle.registers.specs.Keys.{sortedKeys, keysFor, Tested}
+use Rattle.registers.proofs.Passed.{length-sortedKeys}
 use Rattle.registers.proofs.Tested.{passed-headed, keys-left}
-use Rattle.calculating.specs.Sources.{Passed, Judged}
+use Rattle.issuing.specs.Ready.{Ready}
+use Rattle.calculating.specs.Sources.{Passed, Judged, Keyed}
 use Rattle.calculating.proofs.Pass.{none-faulty}
 
 -- a refusal of tests 1 to 4
@@ -38,8 +42,19 @@ register-refused {b} {report = report} t e =
     refused-gives (calculationTests b) (calculatedReport b) report
     (refused-then (registerTests b) (lineTest (sourcesOf b) ∷ massTest (sourcesOf b) ∷ []) (sym (t .verdict) ∙ e))
 
-pub passed : {b keys left : List ℕ} {v : Verdict} → Tested b keys v left → v ≡ Passes → Passed b
-passed {b} t e = let f = sym (t .verdict) ∙ e in record { tests = f; head = passed-headed b f }
+-- and where they pass
+pub keyed : {b keys left kept : List ℕ} {v : Verdict} → Tested b keys v left → v ≡ Passes → figureCount * keysFor b ≤ length kept → Keyed b left kept
+unfolding keysFor
+keyed {b} {keys} t e l =
+    let f = sym (t .verdict) ∙ e in
+    let h = passed-headed b f in
+    let few : ltb mostSources (sourceCount b) ≡ false = le-ltb mostSources (sourceCount b) (right-register b f .header .sources) in
+    let long : ltb (length b) sourcesAt ≡ false = le-ltb (length b) sourcesAt (right-register b f .long) in
+    record {
+      passed = record { tests = f; head = h };
+      order = rw (keys-left t e) (take-at (sortedKeys b) (drop (sourceCount b) keys) (sourceCount b) (length-sortedKeys b));
+      room = rw (long, few) at l;
+    }
 
 -- a refusal of tests 5 to 7
 pub source-refused : {b kept report : List ℕ} {v : Verdict} {n p : ℕ} → Passed b → Judged b v kept → v ≡ Refuses n p
@@ -48,9 +63,6 @@ unfolding calculated
 source-refused {b} {report = report} h j e =
     refused-gives (calculationTests b) (calculatedReport b) report
     (passed-then (registerTests b) (lineTest (sourcesOf b) ∷ massTest (sourcesOf b) ∷ []) (h .tests) ∙ sym (j .verdict) ∙ e)
-
-pub all-passed : {b kept : List ℕ} {v : Verdict} → Passed b → Judged b v kept → v ≡ Passes → firstRefusal (calculationTests b) ≡ Passes
-all-passed {b} h j e = passed-then (registerTests b) (lineTest (sourcesOf b) ∷ massTest (sourcesOf b) ∷ []) (h .tests) ∙ sym (j .verdict) ∙ e
 
 -- where nothing refuses, each equivalent keeps the limit
 fault-none : (s : Source) → massFault s ≡ 0 → equivalent (masses (decodedLines s)) ≤ limit
@@ -62,7 +74,7 @@ fault-none s e = by (belowZero (decodedLines s)) (ltb limit (equivalent (masses 
     by false true q h = absurd (omega arith)
     by false false q h = ltb-false _ _ q
 
-pub kept-within : {b kept : List ℕ} {v : Verdict} → Judged b v kept → v ≡ Passes → (i : ℕ) → i < sourceCount b → equivalent (entryOf (sourceAt b i) .masses) ≤ limit
+kept-within : {b kept : List ℕ} {v : Verdict} → Judged b v kept → v ≡ Passes → (i : ℕ) → i < sourceCount b → equivalent (entryOf (sourceAt b i) .masses) ≤ limit
 unfolding entryOf
 kept-within {b} j e i l =
     let m = each-passes (lineTest (sourcesOf b) ∷ massTest (sourcesOf b) ∷ []) (sym (j .verdict) ∙ e) .1 .0 in
@@ -73,9 +85,38 @@ each-massed : (ss : List Source) → Each Massed (map entryOf ss)
 each-massed [] = tt
 each-massed (s ∷ ss) = (source-massed s, each-massed ss)
 
-pub length-calculated : (b : List ℕ) → length (calculatedReport b) ≡ reportLength (sourceCount b)
+length-calculated : (b : List ℕ) → length (calculatedReport b) ≡ reportLength (sourceCount b)
 unfolding entriesFor inOrder
 length-calculated b =
     let ss = sourcesOf b in
     length-report (yearOf b) (entriesFor ss) (sortedBy-each (λ e. e .number) Massed (map entryOf ss) (each-massed ss))
     ∙ ap reportLength (one-entry-each ss .1 ∙ length-sources b)
+
+-- what is written where all tests pass
+pub all-passed : {b kept : List ℕ} {v : Verdict} → Passed b → Judged b v kept → v ≡ Passes → firstRefusal (calculationTests b) ≡ Passes
+all-passed {b} h j e = passed-then (registerTests b) (lineTest (sourcesOf b) ∷ massTest (sourcesOf b) ∷ []) (h .tests) ∙ sym (j .verdict) ∙ e
+
+pub ready : {b keys kept₀ kept : List ℕ} {v : Verdict} → Keyed b keys kept₀ → length kept ≡ length kept₀ → Judged b v kept → v ≡ Passes → Ready b keys kept
+ready h n j e = record { passes = h .passed .tests; order = h .order; long = omega (arith, h .room); stored = j .stored e; kept = kept-within j e }
+
+-- its count of sources can be read
+pub ready-long : {b keys kept : List ℕ} → Ready b keys kept → 8 + 2 ≤ length b
+ready-long {b} r = omega (arith, right-register b (r .passes) .long)
+
+-- and it tells the length of the report, by which the call answers
+module _ (b : List ℕ) (p : firstRefusal (calculationTests b) ≡ Passes) {n needed : ℕ} (f : Field 2 b 8 n) (e : needed ≡ reportLength n) where
+  needed-is : length (calculatedReport b) ≡ needed
+  needed-is = rw (e, f .is) (length-calculated b)
+
+  pub issued-short : {report : List ℕ} → length report < needed → Gives (calculated b report) (record { number = 8; place = needed; length = 0 }) report
+  unfolding calculated
+  issued-short {report} l = rw (← needed-is) (short-gives (calculationTests b) (calculatedReport b) report p (rw needed-is l))
+
+  pub issued-room : {m : ℕ} → needed ≤ m → reportLength (sourceCount b) ≤ m
+  issued-room l = rw (← f .is, ← e) l
+
+  pub issued-made : {report left : List ℕ} → Written report 0 (calculatedReport b) left → Gives (calculated b report) (record { number = 0; place = 0; length = needed }) left
+  unfolding calculated
+  issued-made {report} w = rw (← needed-is) (made-gives (calculationTests b) (calculatedReport b) report p w)
+
+pub ruleset issued = (needs, ready-long, issued-short, issued-room, issued-made)

@@ -22,7 +22,7 @@ use Rattle.masses.specs.declared.Source.{Source}
 use Rattle.masses.specs.Lines.{readAt, readFrom, Lines}
 use Rattle.masses.specs.Judged.{faultOf, Comes}
 use Rattle.registers.specs.Layout.{Headed}
-use Rattle.registers.proofs.Tested.{passed-right}
+use Rattle.meaning.proofs.Registers.{right-register}
 use Rattle.basis.proofs.Rows.{numberAt-drop}
 use Rattle.calculating.specs.Sources.{Passed, ComesAt}
 use Rattle.calculating.specs.declared.sources.Judgement.{Judgement}
@@ -60,7 +60,7 @@ states i n m p c f = record { all = n .is; ofMethod = field-in i 4 m .is; ofPara
 module _ {b : List ℕ} {i n method parameter count first : ℕ} (h : Passed b) (l : i < sourceCount b) (s : States b i n method parameter count first) where
   right : (misplaced b i ≡ false) × (unsound (sourceAt b i) ≡ false)
   unfolding wrongSource
-  right = or-false (misplaced b i) (unsound (sourceAt b i)) (passed-right b (h .tests) i l)
+  right = or-false (misplaced b i) (unsound (sourceAt b i)) (right-register b (h .tests) .each i l)
 
   pub lines-stand : Lines b method parameter (sourcesAt + sourceLength * n) first (first + count)
   lines-stand =

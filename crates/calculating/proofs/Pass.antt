@@ -21,7 +21,7 @@ use Rattle.basis.specs.Answers.{firstRefusal, refuseAtFirst}
 use Rattle.basis.proofs.Answers.{never, each-passes, passed-append, passed-if, passed-at-all, passed-at-first}
 use Rattle.basis.proofs.Bools.{or-false}
 use Rattle.basis.proofs.Bytes.{read-before, read-inside, length-written}
-use Rattle.basis.proofs.Counting.{getD-counted, getD-either}
+use Rattle.basis.proofs.Counting.{getD-either}
 use Rattle.basis.proofs.First.{first-is}
 use Rattle.basis.proofs.Lists.{length-countUp}
 use Rattle.meaning.specs.declared.Decoded.the-variants.{Bad}
@@ -32,8 +32,8 @@ use Rattle.meaning.specs.Report.{entryOf, figures, figureCount}
 use Rattle.meaning.specs.Calls.{badLine, lineTest, massFault, faultAt, massTest}
 use Rattle.meaning.proofs.Reports.{length-figures}
 use Rattle.meaning.proofs.Lines.{Following, allLines, next-line, length-lines, line-is}
-use Rattle.meaning.proofs.Sources.{Placed, placed}
-use Rattle.registers.proofs.Tested.{passed-right}
+use Rattle.meaning.proofs.Sources.{Placed, placed, noSource, length-sources, source-at}
+use Rattle.meaning.proofs.Registers.{right-register}
 use Rattle.calculating.specs.Sources.{Passed, badFor, ComesAt, waited, Stored, Judged}
 use Rattle.calculating.specs.declared.sources.Judgement.{Judgement}
 use Rattle.calculating.proofs.Waiting.{waitedFrom, mass-test}
@@ -41,38 +41,26 @@ use Rattle.calculating.proofs.Waiting.{waitedFrom, mass-test}
 -- where an entry of a register that has passed stands
 stands : (b : List ℕ) → Passed b → (i : ℕ) → i < sourceCount b → Placed b i
 unfolding wrongSource
-stands b h i l = placed b i (or-false (misplaced b i) (unsound (sourceAt b i)) (passed-right b (h .tests) i l) .0)
+stands b h i l = placed b i (or-false (misplaced b i) (unsound (sourceAt b i)) (right-register b (h .tests) .each i l) .0)
 
 -- the lines of a register that has passed follow one another
 pub following : (b : List ℕ) → Passed b → Following b
-unfolding registerTests restTest
-following b h =
-    let back = passed-append (lengthTest b ∷ headerTests b) (sourceTest b ∷ restTest b ∷ repeatTest (sourcesOf b) ∷ []) (h .tests) .1 in
-    let rest = each-passes (sourceTest b ∷ restTest b ∷ repeatTest (sourcesOf b) ∷ []) back .1 .0 in
-    let n = sourceCount b in
-    let ends = or-false (not (eqb (lineStart b n) (lineCount b))) (not (eqb (nameStart b n) (nameBytes b))) (passed-if _ 3 n rest) in
-    record {
-      each = λ i l. stands b h i l .line;
-      last = eqb-true _ _ (not-false _ (ends .0));
-    }
+following b h = record { each = λ i l. stands b h i l .line; last = right-register b (h .tests) .lastLine }
 
 -- the faults of all sources
 unfoldable pub faults : List ℕ → List ℕ
 faults b = map massFault (sourcesOf b)
 
-abbrev noSource : Source
-noSource = record { number = 0; method = 0; parameter = 0; name = []; lines = [] }
-
 length-faults : (b : List ℕ) → length (faults b) ≡ sourceCount b
-unfolding faults sourcesOf
-length-faults b = length-map (sourcesOf b) massFault ∙ length-map (countUp 0 (sourceCount b)) (sourceAt b) ∙ length-countUp 0 (sourceCount b)
+unfolding faults
+length-faults b = length-map (sourcesOf b) massFault ∙ length-sources b
 
 fault-at : (b : List ℕ) (i : ℕ) → i < sourceCount b → getD (faults b) i 0 ≡ massFault (sourceAt b i)
-unfolding faults sourcesOf
+unfolding faults
 fault-at b i l =
     getD-either (faults b) i 0 (massFault noSource) (omega (arith, length-faults b))
     ∙ List·getD-map massFault (sourcesOf b) i noSource
-    ∙ ap massFault (getD-counted (sourceAt b) noSource (sourceCount b) 0 i l ∙ ap (sourceAt b) (zero-add i))
+    ∙ ap massFault (source-at b i l)
 
 fault-now : (b : List ℕ) (i : ℕ) → i < sourceCount b → drop i (faults b) ≡ massFault (sourceAt b i) ∷ drop (i + 1) (faults b)
 fault-now b i l = drop-cons (faults b) i 0 (omega (arith, length-faults b)) ∙ rw (fault-at b i l, add-one i)

@@ -1,2 +1,107 @@
 // Document 01: calculation, from the bytes of a register to those of its report.
 mod sources;
+
+ghost use mathlib.Core.Path.{_≡_};
+ghost use Prim.Native.Nat.{_*_, _≤_};
+ghost use lib.ListN.{length};
+ghost use Rattle.basis.specs.declared.Verdict.the-variants.{Passes};
+ghost use Rattle.basis.specs.Answers.{firstRefusal, Gives};
+ghost use Rattle.meaning.specs.Register.{mostSources};
+ghost use Rattle.meaning.specs.Report.{figureCount};
+ghost use Rattle.meaning.specs.Calls.{calculationTests, calculated};
+ghost use Rattle.registers.specs.Keys.{keysFor};
+ghost use Rattle.issuing.specs.Ready.{Ready};
+ghost use Rattle.calculating.specs.Sources.{Keyed};
+use basis::Answer;
+use basis::Verdict;
+use sources::judge_sources;
+
+// So few sources do not pay for clearing the room of 512.
+const FEW: usize = 16;
+
+// What is left of a calculation whose tests have passed: the room, and the report.
+fn issue(register: &[u8], keys: &[u64], kept: &[u64], report: &mut [u8]) -> Answer
+    requires { ⌜ Ready (now register) (now keys) (now kept) × (firstRefusal (calculationTests (now register)) ≡ Passes) ⌝ }
+    ensures { λ r. ⌜ Gives (calculated (now (register .entry)) (now (report .entry))) r (now (report .exit)) ⌝ }
+{
+    let needed = reports::length_of(fields::u16_at(register, 8)) as usize;
+    if report.len() < needed {
+        return Answer {
+            number: 8,
+            place: needed as u64,
+            length: 0,
+        };
+    }
+    issuing::write_report(register, keys, kept, report);
+    Answer {
+        number: 0,
+        place: 0,
+        length: needed as u64,
+    }
+}
+
+// "5 over all lines, then 6 and 7 source by source in table order, then 8"
+fn judge(register: &[u8], keys: &[u64], kept: &mut [u64], report: &mut [u8]) -> Answer
+    requires { ⌜ Keyed (now register) (now keys) (now kept) ⌝ }
+    ensures { λ r. ⌜ Gives (calculated (now (register .entry)) (now (report .entry))) r (now (report .exit)) ⌝ }
+{
+    let verdict = judge_sources(register, kept);
+    match verdict {
+        Verdict::Passes => issue(register, keys, kept, report),
+        Verdict::Refuses { number, place } => Answer {
+            number,
+            place,
+            length: 0,
+        },
+    }
+}
+
+// A calculation in the room given for the keys and for the figures, which also serves to sort the keys.
+fn calculate_in(
+    register: &[u8],
+    keys: &mut [u64],
+    kept: &mut [u64],
+    report: &mut [u8],
+) -> Answer
+    requires { ⌜ (keysFor (now register) ≤ length (now keys)) × (figureCount * keysFor (now register) ≤ length (now kept)) ⌝ }
+    ensures { λ r. ⌜ Gives (calculated (now (register .entry)) (now (report .entry))) r (now (report .exit)) ⌝ }
+{
+    let verdict = registers::test_register(register, keys, kept);
+    match verdict {
+        Verdict::Passes => judge(register, keys, kept, report),
+        Verdict::Refuses { number, place } => Answer {
+            number,
+            place,
+            length: 0,
+        },
+    }
+}
+
+fn calculate_few(register: &[u8], report: &mut [u8]) -> Answer
+    requires { ⌜ keysFor (now register) ≤ 16 ⌝ }
+    ensures { λ r. ⌜ Gives (calculated (now (register .entry)) (now (report .entry))) r (now (report .exit)) ⌝ }
+{
+    let mut keys = [0u64; FEW];
+    let mut kept = [0u64; 64];
+    calculate_in(register, &mut keys, &mut kept, report)
+}
+
+fn calculate_many(register: &[u8], report: &mut [u8]) -> Answer
+    requires { ⌜ keysFor (now register) ≤ mostSources ⌝ }
+    ensures { λ r. ⌜ Gives (calculated (now (register .entry)) (now (report .entry))) r (now (report .exit)) ⌝ }
+{
+    let mut keys = [0u64; 512];
+    let mut kept = [0u64; 2048];
+    calculate_in(register, &mut keys, &mut kept, report)
+}
+
+// "Calculation tests 1, 2 by field, 3 over all sources, 4 over all", and what is behind these.
+pub fn calculate(register: &[u8], report: &mut [u8]) -> Answer
+    ensures { λ r. ⌜ Gives (calculated (now (register .entry)) (now (report .entry))) r (now (report .exit)) ⌝ }
+{
+    let count = registers::keys_for(register);
+    if count <= FEW {
+        return calculate_few(register, report);
+    }
+    calculate_many(register, report)
+}

@@ -23,7 +23,7 @@ use Rattle.meaning.specs.Calls.{numbered}
 use Rattle.fields.specs.Fields.{Field}
 use Rattle.reports.specs.Figures.{figureAt}
 use Rattle.reports.specs.Stated.{Readable, statedHeader}
-use Rattle.reports.proofs.Filling.{Filled, filled-none, filled-now, filled-more, filled-all}
+use Rattle.basis.proofs.Filling.{Filled, filled-none, filled-now, filled-more, filled-all}
 use Rattle.reports.proofs.Writing.{entry-stands}
 use Rattle.combining.specs.Entries.{entriesFrom, rows, entryNumber, numberedAt, otherEntries, takenAt, Takeable}
 use Rattle.combining.proofs.Order.{any-none, any-between, without-between}

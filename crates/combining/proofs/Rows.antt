@@ -10,12 +10,12 @@ use Rattle.basis.specs.Bytes.{bytesOf, packed, Written}
 use Rattle.basis.specs.Lists.{Each, sum, countUp, joined}
 use Rattle.basis.proofs.Bytes.{written-then}
 use Rattle.basis.proofs.Counting.{sum-bounded}
-use Rattle.basis.proofs.Lists.{length-countUp}
+use Rattle.basis.proofs.Lists.{length-countUp, sum-both}
 use Rattle.basis.proofs.Rows.{numberAt-drop, length-rows}
 use Rattle.meaning.specs.Masses.{gasCount, limit}
 use Rattle.meaning.specs.Report.{Entry, figures, figureCount, figure, totals, entriesAt, entryLength, reportLength, reportHeader, entryBytes, reportBytes, entryCount, entryAt, entryIn, entriesOf, inOrder, numberBefore}
 use Rattle.meaning.specs.Calls.{bothEntries}
-use Rattle.meaning.proofs.Reports.{Formed, formed, length-masses, length-figures, length-totals, total-is, totals-by, total-read, totals-read, sum-both}
+use Rattle.meaning.proofs.Reports.{Formed, formed, length-masses, length-figures, length-totals, total-is, totals-by, total-read, totals-read}
 use Rattle.fields.specs.Fields.{Field}
 use Rattle.reports.specs.Figures.{figureAt, figuresAt, addedAt, Addable}
 use Rattle.reports.specs.Stated.{Readable, statedEntry, statedFront, statedHeader}

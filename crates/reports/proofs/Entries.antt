@@ -2,12 +2,12 @@
 use mathlib.Core.Bool.{Bool, true, false, not, _||_}
 use mathlib.Core.List.{List, map}
 use mathlib.Core.Path.{_≡_, refl, sym, ap, _∙_}
-use Prim.Native.Nat.{ℕ, _+_, _*_, _<_}
+use Prim.Native.Nat.{ℕ, _+_, _*_, _≤_, _<_}
 use native.Mathlib.Nat.{add-assoc, add-zero}
 use native.Mathlib.Omega.{arith}
 use borrow.Author.Tests.{lt-ltb, le-ltb}
 use lib.Dec.{eqb, ltb, leb}
-use lib.ListN.{drop}
+use lib.ListN.{length, drop}
 use Rattle.basis.specs.Bytes.{numberAt}
 use Rattle.basis.specs.Lists.{countUp}
 use Rattle.basis.proofs.Bools.{or-true}

@@ -1,0 +1,20 @@
+use borrow.Author.Needs.{needs}
+use Rattle.calculating.proofs.Calculating.{keyed, register-refused}
+use Rattle.calculating.proofs.calculate_in.Statement.{statement}
+use Rattle.calculating.proofs.calculate_in.Tie as tie
+
+pub calculate-in-spec : {M : Type 1} → statement M
+calculate-in-spec =
+    tie.close
+    (tie.spec
+    (search needs)
+    (search needs)
+    (λ c κs. keyed (c .before .before .before .before .before .before .before .before .before .test-register .ensures) (c .before .before .before .enum-told .given .1) (search needs))
+    (search needs)
+    (search needs)
+    (search needs)
+    (search needs)
+    (λ c. search needs)
+    (search needs)
+    (search needs)
+    (λ c. search (needs, register-refused)))

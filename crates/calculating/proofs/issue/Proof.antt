@@ -1,0 +1,15 @@
+use borrow.Author.Needs.{needs}
+use Rattle.calculating.proofs.Calculating.{issued}
+use Rattle.calculating.proofs.issue.Statement.{statement}
+use Rattle.calculating.proofs.issue.Tie as tie
+
+pub issue-spec : {M : Type 1} → statement M
+issue-spec =
+    tie.close
+    (tie.spec
+    (λ c κs. search issued)
+    (search needs)
+    (λ c. search issued)
+    (λ c κs. search issued)
+    (search needs)
+    (λ c. search issued))
