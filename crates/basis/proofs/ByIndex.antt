@@ -1,9 +1,9 @@
--- Lists made by index: equal, said of each, and ordered alike where it is so at each index; and sums, which do not go by order. Assumes nothing.
-use mathlib.Core.List.{List, map, List·Permᴰ, List·Permᴰ·nil, List·Permᴰ·cons, List·Permᴰ·swap, List·Permᴰ·trans}
-use mathlib.Core.Path.{_≡_, refl, ap, ap₂, _∙_}
+-- Lists made by index: equal, said of each, and ordered alike where it is so at each index. Assumes nothing.
+use mathlib.Core.List.{map}
+use mathlib.Core.Path.{_≡_, refl}
 use Prim.Native.Nat.{ℕ, zero, suc, _+_, _≤_, _<_}
 use native.Mathlib.Omega.{arith}
-use Rattle.basis.specs.Lists.{Each, sum, countUp}
+use Rattle.basis.specs.Lists.{Each, countUp}
 use Rattle.basis.proofs.Lists.{Alike, AllAlike}
 
 pub same-by-index : {A : Type 0} (f g : ℕ → A) (n j : ℕ) → ((i : ℕ) → j ≤ i → i < j + n → f i ≡ g i) → map f (countUp j n) ≡ map g (countUp j n)
@@ -26,10 +26,3 @@ alike-by-index f key other g (suc n) j h = (
   each-by-index (Alike f key other (g j)) g n (j + 1) (λ k l m. h j k (omega arith) (omega arith) (omega arith)),
   alike-by-index f key other g n (j + 1) (λ i k l m o. h i k (omega arith) m (omega arith)),
 )
-
-pub sum-perm : {A : Type 0} (w : A → ℕ) {xs ys : List A} → List·Permᴰ xs ys → sum (map w xs) ≡ sum (map w ys)
-unfolding sum
-sum-perm w List·Permᴰ·nil = refl
-sum-perm w (List·Permᴰ·cons e d) = ap₂ _+_ (ap w e) (sum-perm w d)
-sum-perm w (List·Permᴰ·swap e f) = omega (arith, ap w e, ap w f)
-sum-perm w (List·Permᴰ·trans d f) = sum-perm w d ∙ sum-perm w f

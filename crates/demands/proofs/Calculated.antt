@@ -18,18 +18,19 @@ use Rattle.basis.proofs.Lists.{_&_, length-sortedBy, each-at, at-each, each-map
 use Rattle.basis.proofs.Bools.{clash, and-true, not-both, or-either}
 use Rattle.meaning.specs.declared.Decoded.the-variants.{Bad}
 use Rattle.meaning.specs.Methods.{within, listed, isBad}
-use Rattle.meaning.specs.Masses.{gasCount, belowZero, mass, masses, equivalent, limit}
+use Rattle.meaning.specs.Masses.{belowZero, masses, equivalent, limit}
 use Rattle.meaning.specs.Register.{Source, yearOf, sourceCount, mostSources, sourcesAt, sourceLength, sourceEntry, sourceAt, sourcesOf, unsound, decodedLines, registerTests}
 use Rattle.meaning.specs.Report.{entryOf, inOrder, reportBytes, reportLength}
 use Rattle.meaning.specs.Calls.{roomTest, badLine, lineTest, massFault, faultAt, massTest, entriesFor, calculated, calculationTests, calculatedReport}
 use Rattle.meaning.proofs.Laws.{one-entry-each}
+use Rattle.meaning.proofs.Lengths.{source-massed}
 use Rattle.meaning.proofs.Sources.{noSource, sourceNumber, length-sources, source-at}
 use Rattle.demands.specs.Valid.{Entered, Distinct, entryNumber, Reportable}
 use Rattle.demands.specs.Demand1.{Answers}
 use Rattle.demands.specs.Table.{Among}
 use Rattle.demands.specs.Exactly.{at, Exactly}
 use Rattle.demands.specs.Refusals.{registerRows, calculationRows}
-use Rattle.basis.proofs.Counting.{length-counted, any-some, some-any, any-append, append-any}
+use Rattle.basis.proofs.Counting.{any-some, some-any, any-append, append-any}
 use Rattle.demands.proofs.Figures.{equivalent-is}
 use Rattle.demands.proofs.Order.{sorted-ascending}
 use Rattle.basis.proofs.Rows.{numberAt-fits, bytes-drop}
@@ -78,7 +79,7 @@ kept-within s e = by (belowZero (decodedLines s)) (ltb limit (equivalent (masses
 pub entered : (s : Source) → Calculable s → Entered (entryOf s)
 unfolding entryOf masses
 entered s c =
-    let three = length-counted (mass (decodedLines s)) 0 gasCount in
+    let three = source-massed s in
     record {
       number = c .number;
       method = method-listed (s .method) (s .parameter) (sound-parts s (c .sound) .pair);

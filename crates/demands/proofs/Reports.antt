@@ -12,15 +12,16 @@ use borrow.Author.Tests.{le-ltb, le-leb, lt-leb, eq-eqb}
 use Rattle.basis.specs.Bytes.{numberAt, packed, Bytes, startsWith}
 use Rattle.basis.specs.Lists.{Each, sum, joined}
 use Rattle.basis.proofs.Bytes.{Fits, length-packed, numberAt-packed, packed-bytes, append-bytes}
-use Rattle.basis.proofs.Lists.{each-at}
+use Rattle.basis.proofs.Lists.{each-map, each-at}
 use Rattle.meaning.specs.Masses.{gasCount, gases, equivalent, limit}
 use Rattle.meaning.specs.Register.{mostSources}
 use Rattle.meaning.specs.Report.{Entry, figures, figureCount, figure, totals, reportTag, reportLayout, entriesAt, entryLength, reportLength, reportHeader, entryBytes, reportBytes, reportYear, entryCount, totalAt, entryAt, figureIn, entryIn, entriesOf, headerRight, numberBefore, wrongEntry, wrongTotal, wellFormed}
+use Rattle.meaning.proofs.Lengths.{length-entry as length-massed, length-header, length-report as length-whole}
 use Rattle.meaning.proofs.Reports.{length-figures, figure-bounded, length-totals, total-is}
 use Rattle.demands.specs.Valid.{Entered, Ascending, entryNumber, noEntry, Reportable}
 use Rattle.demands.proofs.Figures.{equivalent-is}
 use Rattle.basis.proofs.Counting.{counted-all, none-counted, sum-widths, sum-bounded}
-use Rattle.basis.proofs.Rows.{tag-starts, numberAt-behind, read-rows, row-at, length-rows, each-bytes, joined-bytes}
+use Rattle.basis.proofs.Rows.{tag-starts, numberAt-behind, read-rows, row-at, each-bytes, joined-bytes}
 
 -- Figures and totals. No figure of an entry is above the limit.
 pub equivalent-within : (e : Entry) → Entered e → equivalent (e .masses) ≤ limit
@@ -68,8 +69,7 @@ unfolding front
 front-fits e v = omega (arith, v .number, v .method)
 
 pub length-entry : (e : Entry) → Entered e → length (entryBytes e) ≡ entryLength
-unfolding entryBytes sum front
-length-entry e v = rw (length-append, length-packed (4 ∷ 1 ∷ 3 ∷ []) (front e) (front-fits e v), length-packed (eights figureCount) (figures e) (figures-fit e v))
+length-entry e v = length-massed e (v .gases)
 
 pub entry-bytes : (e : Entry) → Bytes (entryBytes e)
 unfolding entryBytes
@@ -166,14 +166,9 @@ module _ (y : ℕ) (es : List Entry) (v : Reportable y es) where
       ap (λ (b : List ℕ). numberAt 8 b (24 + 8 * k)) (append-assoc (reportTag ++ packed headerWidths (headerNumbers y (length es))) (packed (eights figureCount) (totals es)) rows)
       ∙ eights-at (reportTag ++ packed headerWidths (headerNumbers y (length es))) (totals es) rows 24 figureCount before-totals (totals-fit es (v .each) (v .count)) k l
 
-  length-header : length (reportHeader y es) ≡ entriesAt
-  unfolding reportHeader sum
-  length-header =
-      rw (length-append (reportTag ++ packed headerWidths (headerNumbers y (length es))), before-totals, length-packed (eights figureCount) (totals es) (totals-fit es (v .each) (v .count)))
-
   rows-behind : drop entriesAt (reportBytes y es) ≡ rows
   unfolding reportBytes rows
-  rows-behind = drop-at (reportHeader y es) rows entriesAt length-header
+  rows-behind = drop-at (reportHeader y es) rows entriesAt (length-header y es)
 
   pub year-back : reportYear (reportBytes y es) ≡ y
   unfolding sum
@@ -191,8 +186,7 @@ module _ (y : ℕ) (es : List Entry) (v : Reportable y es) where
       (rows-behind ∙ sym (append-nil rows)))
 
   pub length-report : length (reportBytes y es) ≡ reportLength (length es)
-  unfolding reportBytes
-  length-report = rw (length-append, length-header, length-rows entryBytes entryIn entryLength Entered length-entry es (v .each))
+  length-report = length-whole y es (each-map (λ e w. w .gases) es (v .each))
 
   tagged : startsWith reportTag (reportBytes y es) ≡ true
   tagged = rw behind-tag (tag-starts reportTag (packed headerWidths (headerNumbers y (length es)) ++ (packed (eights figureCount) (totals es) ++ rows)))

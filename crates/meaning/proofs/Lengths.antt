@@ -1,15 +1,15 @@
 -- How long the bytes of an entry and of a report are. Assumes nothing.
-use mathlib.Core.List.{List, [], _∷_, _++_, map}
-use mathlib.Core.Path.{_≡_, refl, ap, _∙_}
-use Prim.Native.Nat.{ℕ, suc, _+_}
+use mathlib.Core.List.{List, [], _∷_}
+use mathlib.Core.Path.{_≡_, refl}
+use Prim.Native.Nat.{ℕ}
 use native.Mathlib.Omega.{arith}
-use lib.ListN.{length, replicate, length-append, length-replicate, length-map}
+use lib.ListN.{length, replicate, length-append}
 use Rattle.basis.specs.Bytes.{packed}
-use Rattle.basis.specs.Lists.{Each, sum, countUp}
+use Rattle.basis.specs.Lists.{Each, sum}
 use Rattle.basis.proofs.Bytes.{length-bytesOf}
-use Rattle.basis.proofs.Lists.{length-countUp}
+use Rattle.basis.proofs.Counting.{length-counted}
 use Rattle.basis.proofs.Rows.{length-rows}
-use Rattle.meaning.specs.Masses.{gasCount, gases, mass, masses}
+use Rattle.meaning.specs.Masses.{gasCount, mass, masses}
 use Rattle.meaning.specs.Register.{Source, decodedLines}
 use Rattle.meaning.specs.Report.{Entry, entryOf, figures, figureCount, totals, entriesAt, entryLength, reportLength, reportHeader, entryBytes, reportBytes, entryIn}
 use Rattle.meaning.proofs.Reports.{length-figures, length-totals}
@@ -26,7 +26,7 @@ Massed e = length (e .masses) ≡ gasCount
 
 pub source-massed : (s : Source) → Massed (entryOf s)
 unfolding entryOf masses
-source-massed s = length-map gases (mass (decodedLines s)) ∙ length-countUp 0 gasCount
+source-massed s = length-counted (mass (decodedLines s)) 0 gasCount
 
 pub length-entry : (e : Entry) → Massed e → length (entryBytes e) ≡ entryLength
 unfolding entryBytes sum
@@ -36,7 +36,7 @@ length-entry e m =
     let b : length (packed (replicate figureCount 8) (figures e)) ≡ 32 = length-packed (replicate figureCount 8) (figures e) (omega arith) in
     rw (length-append, a, b)
 
-length-header : (y : ℕ) (es : List Entry) → length (reportHeader y es) ≡ entriesAt
+pub length-header : (y : ℕ) (es : List Entry) → length (reportHeader y es) ≡ entriesAt
 unfolding reportHeader sum
 length-header y es =
     let t = length-totals es in

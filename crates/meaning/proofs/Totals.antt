@@ -3,8 +3,8 @@ use mathlib.Core.List.{List, map}
 use mathlib.Core.Path.{_≡_, _∙_}
 use lib.ListN.{length, length-map}
 use Rattle.basis.specs.Lists.{sum}
-use Rattle.basis.proofs.Lists.{sortedBy-perm, length-countUp}
-use Rattle.basis.proofs.ByIndex.{same-by-index, sum-perm}
+use Rattle.basis.proofs.Lists.{sum-perm, sortedBy-perm, length-countUp}
+use Rattle.basis.proofs.ByIndex.{same-by-index}
 use Rattle.meaning.specs.Masses.{gasCount, gases, mass, masses}
 use Rattle.meaning.specs.Register.{Source, decodedLines}
 use Rattle.meaning.specs.Report.{Entry, entryOf, figureCount, figure, totals, inOrder}
