@@ -117,19 +117,18 @@ module _ {xs ys zs : List ℕ} {at : ℕ} (w : Written xs at ys zs) where
       let q : at + length ys + (p - (at + length ys)) ≡ p = omega arith in
       rw (← q, ← drop-drop (p - (at + length ys)) (at + length ys) zs, ← drop-drop (p - (at + length ys)) (at + length ys) xs, back-kept)
 
+pub length-packed : (ws ns : List ℕ) → length ws ≡ length ns → length (packed ws ns) ≡ sum ws
+unfolding packed sum
+length-packed [] ns e = refl
+length-packed (w ∷ ws) [] e = absurd (omega arith)
+length-packed (w ∷ ws) (n ∷ ns) e = rw (length-append, length-bytesOf, length-packed ws ns (omega arith))
+
 -- each number fits its width, and there are as many
 abbrev pub Fits : List ℕ → List ℕ → Type 0
 Fits [] [] = Unit {0}
 Fits [] (n ∷ ns) = ⊥
 Fits (w ∷ ws) [] = ⊥
 Fits (w ∷ ws) (n ∷ ns) = (n < 256 ^ w) × Fits ws ns
-
-pub length-packed : (ws ns : List ℕ) → Fits ws ns → length (packed ws ns) ≡ sum ws
-unfolding packed sum
-length-packed [] [] f = refl
-length-packed [] (n ∷ ns) f = absurd f
-length-packed (w ∷ ws) [] f = absurd f
-length-packed (w ∷ ws) (n ∷ ns) f = rw (length-append, length-bytesOf, length-packed ws ns (f .1))
 
 -- numbers that are packed are read at the place that the widths before them make
 pub numberAt-packed : (ws ns rest : List ℕ) → Fits ws ns → (i : ℕ) → i < length ws

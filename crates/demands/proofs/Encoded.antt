@@ -190,7 +190,7 @@ module _ (year : ℕ) (ss : List Source) (v : Encodable year ss) where
 
   length-header : length header ≡ sourcesAt
   unfolding registerHeader sum
-  length-header = rw (length-append registerTag, length-packed registerWidths (registerNumbers year n m t) header-fits)
+  length-header = rw (length-append registerTag, length-packed registerWidths (registerNumbers year n m t) refl)
 
   to-lines : length (header ++ entries) ≡ linesAt n
   to-lines = rw (length-append, length-header, length-entries 0 0 ss room-whole)

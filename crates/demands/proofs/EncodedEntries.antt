@@ -46,7 +46,7 @@ line-fits l v = omega (arith, v .kind, v .unit, v .code, v .a, v .b, v .q)
 
 pub length-line : (l : RawLine) → LineFits l → length (lineBytes l) ≡ lineLength
 unfolding lineBytes sum
-length-line l v = length-packed lineWidths (lineNumbers l) (line-fits l v)
+length-line l v = length-packed lineWidths (lineNumbers l) refl
 
 pub line-back : (l : RawLine) (rest : List ℕ) → LineFits l → lineOf (lineBytes l ++ rest) ≡ l
 unfolding lineBytes sum
@@ -109,7 +109,7 @@ module _ (line byte : ℕ) (s : Source) (ss : List Source) (v : Room line byte (
 
   pub length-entry : length (packed entryWidths (entryNumbers line byte s)) ≡ sourceLength
   unfolding sum
-  length-entry = length-packed entryWidths (entryNumbers line byte s) entry-fits
+  length-entry = length-packed entryWidths (entryNumbers line byte s) refl
 
 pub length-entries : (line byte : ℕ) (ss : List Source) → Room line byte ss → length (sourceEntries line byte ss) ≡ sourceLength * length ss
 unfolding sourceEntries

@@ -84,7 +84,7 @@ module _ (e : Entry) (v : Entered e) (rest : List ℕ) where
   pub figure-at : (k : ℕ) → k < figureCount → figureIn (entryBytes e ++ rest) k ≡ figure k e
   unfolding entryBytes front figure sum
   figure-at k l =
-      let h : length (packed (4 ∷ 1 ∷ 3 ∷ []) (front e)) ≡ 8 = length-packed (4 ∷ 1 ∷ 3 ∷ []) (front e) (front-fits e v) in
+      let h : length (packed (4 ∷ 1 ∷ 3 ∷ []) (front e)) ≡ 8 = length-packed (4 ∷ 1 ∷ 3 ∷ []) (front e) refl in
       rw append-assoc (eights-at (packed (4 ∷ 1 ∷ 3 ∷ []) (front e)) (figures e) rest 8 figureCount h (figures-fit e v) k l)
 
   masses-at : map (figureIn (entryBytes e ++ rest)) gases ≡ e .masses
@@ -158,7 +158,7 @@ module _ (y : ℕ) (es : List Entry) (v : Reportable y es) where
 
   before-totals : length (reportTag ++ packed headerWidths (headerNumbers y (length es))) ≡ 24
   unfolding sum
-  before-totals = rw (length-append reportTag, length-packed headerWidths (headerNumbers y (length es)) header-fits)
+  before-totals = rw (length-append reportTag, length-packed headerWidths (headerNumbers y (length es)) refl)
 
   pub total-at : (k : ℕ) → k < figureCount → totalAt (reportBytes y es) k ≡ getD (totals es) k 0
   unfolding reportBytes reportHeader rows

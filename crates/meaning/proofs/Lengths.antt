@@ -6,19 +6,13 @@ use native.Mathlib.Omega.{arith}
 use lib.ListN.{length, replicate, length-append}
 use Rattle.basis.specs.Bytes.{packed}
 use Rattle.basis.specs.Lists.{Each, sum}
-use Rattle.basis.proofs.Bytes.{length-bytesOf}
+use Rattle.basis.proofs.Bytes.{length-packed}
 use Rattle.basis.proofs.Counting.{length-counted}
 use Rattle.basis.proofs.Rows.{length-rows}
 use Rattle.meaning.specs.Masses.{gasCount, mass, masses}
 use Rattle.meaning.specs.Register.{Source, decodedLines}
 use Rattle.meaning.specs.Report.{Entry, entryOf, figures, figureCount, totals, entriesAt, entryLength, reportLength, reportHeader, entryBytes, reportBytes, entryIn}
 use Rattle.meaning.proofs.Reports.{length-figures, length-totals}
-
-length-packed : (ws ns : List ℕ) → length ws ≡ length ns → length (packed ws ns) ≡ sum ws
-unfolding packed sum
-length-packed [] ns e = refl
-length-packed (w ∷ ws) [] e = absurd (omega arith)
-length-packed (w ∷ ws) (n ∷ ns) e = rw (length-append, length-bytesOf, length-packed ws ns (omega arith))
 
 -- an entry has a mass for each gas
 abbrev pub Massed : Entry → Type 0
