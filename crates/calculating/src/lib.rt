@@ -57,12 +57,7 @@ fn judge(register: &[u8], keys: &[u64], kept: &mut [u64], report: &mut [u8]) -> 
 }
 
 // A calculation in the room given for the keys and for the figures, which also serves to sort the keys.
-fn calculate_in(
-    register: &[u8],
-    keys: &mut [u64],
-    kept: &mut [u64],
-    report: &mut [u8],
-) -> Answer
+fn calculate_in(register: &[u8], keys: &mut [u64], kept: &mut [u64], report: &mut [u8]) -> Answer
     requires { ⌜ (keysFor (now register) ≤ length (now keys)) × (figureCount * keysFor (now register) ≤ length (now kept)) ⌝ }
     ensures { λ r. ⌜ Gives (calculated (now (register .entry)) (now (report .entry))) r (now (report .exit)) ⌝ }
 {
