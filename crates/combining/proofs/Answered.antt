@@ -21,7 +21,8 @@ use Rattle.reports.specs.Stated.{Readable}
 use Rattle.reports.proofs.Judged.{readable}
 use Rattle.combining.specs.Entries.{formTests, entryTests, sharedNumber, Combinable, numberedAt, otherEntries}
 use Rattle.combining.proofs.Apart.{read-within, read-past}
-use Rattle.combining.proofs.Merged.{positive-numbers, massed-both, length-both}
+use Rattle.combining.proofs.Merged.{massed-both, length-both}
+use Rattle.combining.proofs.Shared.{positive-numbers}
 use Rattle.combining.proofs.Removed.{absent, present, without-is, length-others, others-massed}
 use Rattle.combining.proofs.Rows.{length-report}
 
@@ -43,7 +44,7 @@ module _ (one other : List ℕ) {f : Bool} (e : f ≡ wellFormed one) where
 pub ruleset forming = (needs, first-malformed, second-malformed, well-formed)
 
 -- 11
-pub shared-refused : (one other : List ℕ) → 0 < sharedNumber one other → sharedTest one other ≡ Refuses 11 (sharedNumber one other)
+shared-refused : (one other : List ℕ) → 0 < sharedNumber one other → sharedTest one other ≡ Refuses 11 (sharedNumber one other)
 unfolding sharedTest sharedNumber
 shared-refused one other l =
     let ns = map (λ e. e .number) (entriesOf one) in
@@ -51,7 +52,7 @@ shared-refused one other l =
     let i = first (sharedAt ns ms) (length ns) in
     rw (lt-ltb i (length ns) (read-within ns i l))
 
-pub none-shared : (one other : List ℕ) → Readable one → sharedNumber one other ≤ 0 → sharedTest one other ≡ Passes
+none-shared : (one other : List ℕ) → Readable one → sharedNumber one other ≤ 0 → sharedTest one other ≡ Passes
 unfolding sharedTest sharedNumber
 none-shared one other r l =
     let ns = map (λ e. e .number) (entriesOf one) in
@@ -59,7 +60,7 @@ none-shared one other r l =
     let i = first (sharedAt ns ms) (length ns) in
     rw (le-ltb i (length ns) (read-past ns i (positive-numbers one r) l))
 
-pub shared-zero : (one other : List ℕ) → sharedTest one other ≡ Passes → sharedNumber one other ≡ 0
+shared-zero : (one other : List ℕ) → sharedTest one other ≡ Passes → sharedNumber one other ≡ 0
 unfolding sharedTest sharedNumber
 shared-zero one other e =
     let ns = map (λ e. e .number) (entriesOf one) in

@@ -1,6 +1,7 @@
 pub mod Order
 pub mod Apart
 pub mod Rows
+pub mod Shared
 pub mod Merged
 pub mod Removed
 pub mod Answered

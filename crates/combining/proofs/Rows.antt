@@ -24,7 +24,7 @@ use Rattle.reports.proofs.Writing.{length-figureBytes, entry-stated, header-sta
 use Rattle.combining.specs.Entries.{entriesFrom, rows, entryNumber, otherEntries, takenAt, Takeable}
 use Rattle.combining.proofs.Order.{sum-sorted}
 
--- an entry, its number as it is read, and its masses
+-- an entry, and its number as it is read
 abbrev pub entry : List ℕ → ℕ → Entry
 entry b i = entryIn (entryAt b i)
 
@@ -45,7 +45,7 @@ module _ (b : List ℕ) where
   unfolding entriesFrom entriesOf
   from-all = refl
 
-  pub from-split : (i j k : ℕ) → entriesFrom b i (j + k) ≡ entriesFrom b i j ++ entriesFrom b (i + j) k
+  from-split : (i j k : ℕ) → entriesFrom b i (j + k) ≡ entriesFrom b i j ++ entriesFrom b (i + j) k
   unfolding entriesFrom countUp
   from-split i zero k = rw (zero-add k, add-zero i)
   from-split i (suc j) k =
@@ -63,7 +63,7 @@ module _ (b : List ℕ) where
   from-each P zero i h = tt
   from-each P (suc k) i h = (h i (omega arith) (omega arith), from-each P k (i + 1) (λ j l m. h j (omega arith) (omega arith)))
 
--- three masses
+-- a mass for each gas
 abbrev pub Massed : Entry → Type 0
 Massed e = length (e .masses) ≡ gasCount
 
@@ -128,7 +128,7 @@ module _ (b : List ℕ) (r : Readable b) where
       by k q = sym (from-all b) ∙ ap (entriesFrom b 0) q ∙ from-split b 0 i (suc k) ∙ rw (zero-add i, from-more b i k)
 
   -- totals, as a header states them
-  pub totals-stand : {ts : List ℕ} → ts ≡ figuresAt figureCount b 24 → ts ≡ totals (entriesOf b)
+  totals-stand : {ts : List ℕ} → ts ≡ figuresAt figureCount b 24 → ts ≡ totals (entriesOf b)
   unfolding figuresAt
   totals-stand e = e ∙ sym (totals-read b whole)
 
