@@ -83,8 +83,8 @@ fn test_combination(first: &[u8], second: &[u8]) -> Verdict
     test_entries(first, second)
 }
 
-// What is left of a combination whose tests have passed: the room, and the report.
-fn write_both(first: &[u8], second: &[u8], report: &mut [u8]) -> Answer
+// "8", then the report. The two have passed the other tests.
+fn combine_entries(first: &[u8], second: &[u8], report: &mut [u8]) -> Answer
     requires { ⌜ Combinable (now first) (now second) × (firstRefusal (combinationTests (now first) (now second)) ≡ Passes) ⌝ }
     ensures { λ r. ⌜ Gives (combined (now (first .entry)) (now (second .entry)) (now (report .entry))) r (now (report .exit)) ⌝ }
 {
@@ -110,7 +110,7 @@ pub fn combine(first: &[u8], second: &[u8], report: &mut [u8]) -> Answer
 {
     let verdict = test_combination(first, second);
     match verdict {
-        Verdict::Passes => write_both(first, second, report),
+        Verdict::Passes => combine_entries(first, second, report),
         Verdict::Refuses { number, place } => Answer {
             number,
             place,
@@ -119,7 +119,7 @@ pub fn combine(first: &[u8], second: &[u8], report: &mut [u8]) -> Answer
     }
 }
 
-// "Removal: 9, 13, 8": the last two, of a well-formed report.
+// "13, 8", then the report. The one lent is well-formed.
 fn remove_entry(report: &[u8], number: u32, result: &mut [u8]) -> Answer
     requires { ⌜ Readable (now report) ⌝ }
     ensures { λ r. ⌜ Gives (removed (now (report .entry)) number (now (result .entry))) r (now (result .exit)) ⌝ }

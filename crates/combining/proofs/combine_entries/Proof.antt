@@ -1,10 +1,10 @@
 use borrow.Author.Needs.{needs}
 use Rattle.combining.proofs.Answered.{combination-short, combination-made}
-use Rattle.combining.proofs.write_both.Statement.{statement}
-use Rattle.combining.proofs.write_both.Tie as tie
+use Rattle.combining.proofs.combine_entries.Statement.{statement}
+use Rattle.combining.proofs.combine_entries.Tie as tie
 
-pub write-both-spec : {M : Type 1} → statement M
-write-both-spec =
+pub combine-entries-spec : {M : Type 1} → statement M
+combine-entries-spec =
     tie.close
     (tie.spec
     (λ c κs. search needs)
