@@ -1,26 +1,25 @@
 -- Calculation as its tests in order: what each part of the code finds is what the call answers. Assumes nothing.
 use mathlib.Core.Bool.{Bool, true, false, cond}
-use mathlib.Core.List.{List, [], _∷_, _++_, map, append-assoc}
+use mathlib.Core.List.{List, [], _∷_, map}
 use mathlib.Core.Path.{_≡_, refl, sym, ap, _∙_}
 use Prim.Native.Nat.{ℕ, _+_, _*_, _≤_, _<_}
 use native.Mathlib.Omega.{arith}
 use borrow.Author.Needs.{needs}
 use borrow.Author.Tests.{ltb-false, le-ltb}
 use lib.Dec.{ltb}
-use lib.ListN.{length, take, drop, length-map}
+use lib.ListN.{length, drop}
 use lib.Seq.{take-at}
 use Rattle.fields.specs.Fields.{Field}
-use Rattle.basis.specs.declared.Answer.{Answer}
 use Rattle.basis.specs.declared.Verdict.{Verdict}
 use Rattle.basis.specs.declared.Verdict.the-variants.{Passes, Refuses}
 use Rattle.basis.specs.Bytes.{Written}
 use Rattle.basis.specs.Lists.{Each}
-use Rattle.basis.specs.Answers.{firstRefusal, answer, Gives}
+use Rattle.basis.specs.Answers.{firstRefusal, Gives}
 use Rattle.basis.proofs.Answers.{passed-then, refused-then, each-passes}
-use Rattle.basis.proofs.Lists.{sortedBy-each, length-sortedBy}
+use Rattle.basis.proofs.Lists.{sortedBy-each}
 use Rattle.meaning.specs.Masses.{belowZero, masses, equivalent, limit}
 use Rattle.meaning.specs.Register.{Source, yearOf, sourceCount, mostSources, sourcesAt, sourceAt, sourcesOf, decodedLines, registerTests}
-use Rattle.meaning.specs.Report.{Entry, entryOf, inOrder, figureCount, reportLength, reportBytes}
+use Rattle.meaning.specs.Report.{entryOf, inOrder, figureCount, reportLength}
 use Rattle.meaning.specs.Calls.{lineTest, massFault, massTest, entriesFor, calculationTests, calculatedReport, calculated}
 use Rattle.meaning.proofs.Calls.{refused-gives, short-gives, made-gives}
 use Rattle.meaning.proofs.Laws.{one-entry-each}
@@ -100,8 +99,8 @@ pub ready : {b keys kept₀ kept : List ℕ} {v : Verdict} → Keyed b keys kept
 ready h n j e = record { passes = h .passed .tests; order = h .order; long = omega (arith, h .room); stored = j .stored e; kept = kept-within j e }
 
 -- its count of sources can be read
-pub ready-long : {b keys kept : List ℕ} → Ready b keys kept → 8 + 2 ≤ length b
-ready-long {b} r = omega (arith, right-register b (r .passes) .long)
+pub ready-long : {b keys kept : List ℕ} → Ready b keys kept → sourcesAt ≤ length b
+ready-long {b} r = right-register b (r .passes) .long
 
 -- and it tells the length of the report, by which the call answers
 module _ (b : List ℕ) (p : firstRefusal (calculationTests b) ≡ Passes) {n needed : ℕ} (f : Field 2 b 8 n) (e : needed ≡ reportLength n) where
@@ -119,4 +118,4 @@ module _ (b : List ℕ) (p : firstRefusal (calculationTests b) ≡ Passes) {n ne
   unfolding calculated
   issued-made {report} w = rw (← needed-is) (made-gives (calculationTests b) (calculatedReport b) report p w)
 
-pub ruleset issued = (needs, ready-long, issued-short, issued-room, issued-made)
+pub ruleset issued = (needs, issued-short, issued-room, issued-made)

@@ -1,31 +1,26 @@
 -- A source of a register that has passed: its lines, its fault, its figures. Assumes nothing.
-use mathlib.Core.Bool.{Bool, true, false, not, _||_}
-use mathlib.Core.List.{List, [], _∷_, _++_, map, map-map}
-use mathlib.Core.Path.{_≡_, refl, sym, ap, subst, _∙_}
-use Prim.Native.Nat.{ℕ, _+_, _*_, _-_, _≤_, _<_}
+use mathlib.Core.Bool.{true, false, not, _||_}
+use mathlib.Core.List.{List, map, map-map}
+use mathlib.Core.Path.{_≡_, sym, ap, _∙_}
+use Prim.Native.Nat.{ℕ, _+_, _*_, _-_, _<_}
 use native.Mathlib.Omega.{arith}
-use borrow.Author.Needs.{needs}
 use borrow.Author.Tests.{eqb-true, eqb-false, not-false}
 use lib.Dec.{eqb}
 use lib.ListN.{length}
 use Rattle.basis.specs.Lists.{countUp, any}
 use Rattle.basis.proofs.Bools.{or-false}
 use Rattle.fields.specs.Fields.{Field}
-use Rattle.meaning.specs.declared.Decoded.{Decoded}
 use Rattle.meaning.specs.Methods.{within, listed, decoded}
-use Rattle.meaning.specs.Masses.{masses, equivalent}
-use Rattle.meaning.specs.Register.{Source as Register·Source, sourcesAt, sourceLength, linesAt, lineLength, sourceCount, lineAt, sourceEntry, methodIn, parameterIn, firstLineIn, lineCountIn, sourceAt, badNameByte, unsound, misplaced, wrongSource, decodedLines}
+use Rattle.meaning.specs.Register.{Source as Register·Source, sourcesAt, sourceLength, linesAt, sourceCount, lineAt, sourceEntry, methodIn, parameterIn, firstLineIn, lineCountIn, sourceAt, badNameByte, unsound, misplaced, wrongSource, decodedLines}
 use Rattle.meaning.specs.Report.{entryOf, figures}
 use Rattle.meaning.specs.Calls.{massFault}
 use Rattle.meaning.proofs.Sources.{placed}
 use Rattle.masses.specs.declared.Source.{Source}
 use Rattle.masses.specs.Lines.{readAt, readFrom, Lines}
 use Rattle.masses.specs.Judged.{faultOf, Comes}
-use Rattle.registers.specs.Layout.{Headed}
 use Rattle.meaning.proofs.Registers.{right-register}
 use Rattle.basis.proofs.Rows.{numberAt-drop}
 use Rattle.calculating.specs.Sources.{Passed, ComesAt}
-use Rattle.calculating.specs.declared.sources.Judgement.{Judgement}
 
 -- the pair of a sound source is listed
 sound-pair : (s : Register·Source) → unsound s ≡ false → listed (s .method) (s .parameter) ≡ true

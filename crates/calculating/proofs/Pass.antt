@@ -1,35 +1,31 @@
 -- One pass over the sources of a register that has passed: tests 5 to 7, and the figures kept. Assumes nothing.
-use mathlib.Core.Bool.{Bool, true, false, not, _||_}
-use mathlib.Core.List.{List, [], _∷_, _++_, map}
+use mathlib.Core.Bool.{true, false}
+use mathlib.Core.List.{List, [], _∷_, map}
 use mathlib.Core.Path.{_≡_, refl, sym, ap, _∙_}
-use Prim.Native.Nat.{ℕ, zero, suc, _+_, _*_, _≤_, _<_}
+use Prim.Native.Nat.{ℕ, _+_, _*_, _≤_, _<_}
 use native.Mathlib.Decide.{decLt}
-use native.Mathlib.Nat.{zero-add, add-zero}
+use native.Mathlib.Nat.{add-zero}
 use native.Mathlib.Numerals.{add-one}
 use native.Mathlib.Omega.{arith}
 use borrow.Author.Needs.{needs}
 use borrow.Author.Tests.{eqb-true, not-false, lt-ltb}
-use lib.Dec.{eqb, ltb}
-use lib.ListN.{length, getD, take, drop, length-map, List·getD-map, drop-of-length-le}
+use lib.Dec.{eqb}
+use lib.ListN.{length, getD, drop, length-map, List·getD-map, drop-of-length-le}
 use lib.Seq.{drop-cons, take-all}
 use Rattle.basis.specs.Bytes.{Written}
-use Rattle.basis.specs.Lists.{countUp}
-use Rattle.basis.specs.First.{first, NoneBelow}
 use Rattle.basis.specs.declared.Verdict.{Verdict}
 use Rattle.basis.specs.declared.Verdict.the-variants.{Passes, Refuses}
 use Rattle.basis.specs.Answers.{firstRefusal, refuseAtFirst}
-use Rattle.basis.proofs.Answers.{never, each-passes, passed-append, passed-if, passed-at-all, passed-at-first}
+use Rattle.basis.proofs.Answers.{never, passed-at-all, passed-at-first}
 use Rattle.basis.proofs.Bools.{or-false}
 use Rattle.basis.proofs.Bytes.{read-before, read-inside, length-written}
 use Rattle.basis.proofs.Counting.{getD-either}
 use Rattle.basis.proofs.First.{first-is}
-use Rattle.basis.proofs.Lists.{length-countUp}
-use Rattle.meaning.specs.declared.Decoded.the-variants.{Bad}
 use Rattle.meaning.specs.Methods.{isBad}
-use Rattle.meaning.specs.Masses.{gasCount, gases, mass, masses}
-use Rattle.meaning.specs.Register.{Source, sourceCount, lineCount, nameBytes, sourceEntry, firstLineIn, lineCountIn, sourceAt, sourcesOf, lineStart, nameStart, unsound, misplaced, wrongSource, lengthTest, headerTests, sourceTest, restTest, repeatTest, decodedLines, registerTests}
+use Rattle.meaning.specs.Register.{sourceCount, sourceEntry, firstLineIn, lineCountIn, sourceAt, sourcesOf, lineStart, unsound, misplaced, wrongSource}
 use Rattle.meaning.specs.Report.{entryOf, figures, figureCount}
 use Rattle.meaning.specs.Calls.{badLine, lineTest, massFault, faultAt, massTest}
+use Rattle.meaning.proofs.Lengths.{source-massed}
 use Rattle.meaning.proofs.Reports.{length-figures}
 use Rattle.meaning.proofs.Lines.{Following, allLines, next-line, length-lines, line-is}
 use Rattle.meaning.proofs.Sources.{Placed, placed, noSource, length-sources, source-at}
@@ -90,10 +86,6 @@ unfolding firstRefusal
 only Passes = refl
 only (Refuses n p) = refl
 
-length-entry : (s : Source) → length (figures (entryOf s)) ≡ figureCount
-unfolding entryOf masses
-length-entry s = length-figures (entryOf s) (length-map gases (mass (decodedLines s)) ∙ length-countUp 0 gasCount)
-
 -- a line of source i is the line of the table at its index
 bad-at : (b : List ℕ) (h : Passed b) (i k : ℕ) → i < sourceCount b → firstLineIn (sourceEntry b i) ≤ k → k < firstLineIn (sourceEntry b i) + lineCountIn (sourceEntry b i)
     → badLine (allLines b) k ≡ badFor b i k
@@ -134,7 +126,7 @@ module _ {b kept₀ kept : List ℕ} {w : Verdict} {i : ℕ} {r : Judgement} (h 
       by (no q) =
           let o : k ≡ i = omega arith in
           let f : r .figures ≡ figures (entryOf (sourceAt b i)) = c .kept e (c .fault e ∙ rw o at z) in
-          let n : length (r .figures) ≡ figureCount = ap length f ∙ length-entry (sourceAt b i) in
+          let n : length (r .figures) ≡ figureCount = ap length f ∙ length-figures (entryOf (sourceAt b i)) (source-massed (sourceAt b i)) in
           rw o (rw (add-zero (figureCount * i)) at (read-inside v 0 figureCount (omega arith)) ∙ take-all figureCount (r .figures) (omega arith) ∙ f)
 
   pub passing-more : {kept′ : List ℕ} {w′ : Verdict} → r .good ≡ true → Written kept (figureCount * i) (r .figures) kept′ → w′ ≡ waited w (r .fault) i → Passing b kept₀ w′ kept′ (i + 1)

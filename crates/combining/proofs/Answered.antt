@@ -24,7 +24,7 @@ use Rattle.combining.proofs.Apart.{read-within, read-past}
 use Rattle.combining.proofs.Merged.{massed-both, length-both}
 use Rattle.combining.proofs.Shared.{positive-numbers}
 use Rattle.combining.proofs.Removed.{absent, present, without-is, length-others, others-massed}
-use Rattle.combining.proofs.Rows.{length-report}
+use Rattle.meaning.proofs.Lengths.{length-report}
 
 -- 9, of the one and of the other
 module _ (one other : List ℕ) {f : Bool} (e : f ≡ wellFormed one) where

@@ -26,8 +26,9 @@ use Rattle.reports.specs.Stated.{Readable, statedHeader}
 use Rattle.basis.proofs.Filling.{Filled, filled-none, filled-now, filled-more, filled-all}
 use Rattle.reports.proofs.Writing.{entry-stands}
 use Rattle.combining.specs.Entries.{entriesFrom, rows, entryNumber, numberedAt, otherEntries, takenAt, Takeable}
+use Rattle.meaning.proofs.Lengths.{Massed}
 use Rattle.combining.proofs.Order.{any-none, any-between, without-between}
-use Rattle.combining.proofs.Rows.{entry, Massed, from-all, from-each, from-massed, length-from, length-all, rows-both, header-made, all-above, around}
+use Rattle.combining.proofs.Rows.{entry, from-all, from-each, from-massed, length-from, length-all, rows-both, header-made, all-above, around}
 
 -- no entry before i has the number
 pub record Finding (b : List ℕ) (x n i : ℕ) : Type 0 where

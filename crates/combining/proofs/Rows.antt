@@ -5,22 +5,23 @@ use Prim.Native.Nat.{ℕ, zero, suc, _+_, _*_, _-_, _≤_, _<_}
 use native.Mathlib.Nat.{add-zero, zero-add}
 use native.Mathlib.Numerals.{add-one}
 use native.Mathlib.Omega.{arith}
-use lib.ListN.{length, getD, length-append, length-map}
-use Rattle.basis.specs.Bytes.{bytesOf, packed, Written}
+use lib.ListN.{length, getD, length-map}
+use Rattle.basis.specs.Bytes.{Written}
 use Rattle.basis.specs.Lists.{Each, sum, countUp, joined}
 use Rattle.basis.proofs.Bytes.{written-then}
 use Rattle.basis.proofs.Counting.{sum-bounded}
 use Rattle.basis.proofs.Lists.{length-countUp, sum-both}
 use Rattle.basis.proofs.Rows.{numberAt-drop, length-rows}
-use Rattle.meaning.specs.Masses.{gasCount, limit}
-use Rattle.meaning.specs.Report.{Entry, figures, figureCount, figure, totals, entriesAt, entryLength, reportLength, reportHeader, entryBytes, reportBytes, entryCount, entryAt, entryIn, entriesOf, inOrder, numberBefore}
+use Rattle.meaning.specs.Masses.{limit}
+use Rattle.meaning.specs.Report.{Entry, figureCount, figure, totals, entriesAt, entryLength, reportHeader, entryBytes, reportBytes, entryCount, entryAt, entryIn, entriesOf, inOrder, numberBefore}
 use Rattle.meaning.specs.Calls.{bothEntries}
-use Rattle.meaning.proofs.Reports.{Formed, formed, length-masses, length-figures, length-totals, total-is, totals-by, total-read, totals-read}
+use Rattle.meaning.proofs.Lengths.{Massed, length-entry, length-header}
+use Rattle.meaning.proofs.Reports.{Formed, formed, length-masses, length-totals, total-is, totals-by, total-read, totals-read}
 use Rattle.fields.specs.Fields.{Field}
 use Rattle.reports.specs.Figures.{figureAt, figuresAt, addedAt, Addable}
-use Rattle.reports.specs.Stated.{Readable, statedEntry, statedFront, statedHeader}
+use Rattle.reports.specs.Stated.{Readable, statedHeader}
 use Rattle.reports.proofs.Entries.{figure-stands, figure-small}
-use Rattle.reports.proofs.Writing.{length-figureBytes, entry-stated, header-stated}
+use Rattle.reports.proofs.Writing.{header-stated}
 use Rattle.combining.specs.Entries.{entriesFrom, rows, entryNumber, otherEntries, takenAt, Takeable}
 use Rattle.combining.proofs.Order.{sum-sorted}
 
@@ -63,18 +64,11 @@ module _ (b : List ℕ) where
   from-each P zero i h = tt
   from-each P (suc k) i h = (h i (omega arith) (omega arith), from-each P k (i + 1) (λ j l m. h j (omega arith) (omega arith)))
 
--- a mass for each gas
-abbrev pub Massed : Entry → Type 0
-Massed e = length (e .masses) ≡ gasCount
-
+-- each has a mass for each gas
 pub from-massed : (b : List ℕ) (i k : ℕ) → Each Massed (entriesFrom b i k)
 from-massed b i k = from-each b Massed k i (λ j l m. length-masses (entryAt b j))
 
--- the bytes of entries, and of a report
-pub length-entry : (e : Entry) → Massed e → length (entryBytes e) ≡ entryLength
-unfolding statedEntry packed bytesOf
-length-entry e g = rw (← entry-stated e g, length-append, length-figureBytes (figures e), length-figures e g)
-
+-- the bytes of entries
 pub rows-more : (e : Entry) (es : List Entry) → rows (e ∷ es) ≡ entryBytes e ++ rows es
 unfolding rows joined
 rows-more e es = refl
@@ -82,14 +76,6 @@ rows-more e es = refl
 pub length-all : (es : List Entry) → Each Massed es → length (rows es) ≡ entryLength * length es
 unfolding rows
 length-all es p = length-rows entryBytes entryIn entryLength Massed length-entry es p
-
-length-header : (year : ℕ) (es : List Entry) → length (reportHeader year es) ≡ entriesAt
-unfolding statedHeader statedFront packed bytesOf
-length-header year es = rw (← header-stated year es, length-append, length-figureBytes (totals es), length-totals es)
-
-pub length-report : (year : ℕ) (es : List Entry) → Each Massed es → length (reportBytes year es) ≡ reportLength (length es)
-unfolding reportBytes rows
-length-report year es p = rw (length-append, length-header year es) (ap (λ (n : ℕ). entriesAt + n) (length-all es p))
 
 pub rows-both : (es fs : List Entry) → rows (es ++ fs) ≡ rows es ++ rows fs
 unfolding rows joined

@@ -14,13 +14,11 @@ use Rattle.basis.proofs.Lists.{length-countUp}
 use Rattle.basis.proofs.Rows.{numberAt-drop}
 use Rattle.fields.specs.Fields.{Field}
 use Rattle.fields.proofs.Laws.{Writing, writing-none, writing-then, writing-all}
-use Rattle.meaning.specs.Masses.{gasCount}
 use Rattle.meaning.specs.Register.{yearOf, sourcesAt, sourceCount, mostSources, sourceLength, sourceEntry, numberIn, sourceAt, sourcesOf}
-use Rattle.meaning.specs.Report.{Entry, entryOf, figures, figureCount, entriesAt, entryLength, reportLength, reportHeader, entryBytes, reportBytes}
+use Rattle.meaning.specs.Report.{entryOf, figures, figureCount, entriesAt, entryLength, reportLength, reportHeader, entryBytes, reportBytes}
 use Rattle.meaning.specs.Calls.{entriesFor, calculatedReport}
 use Rattle.meaning.proofs.Laws.{one-entry-each}
-use Rattle.meaning.proofs.Reports.{length-figures}
-use Rattle.meaning.proofs.Totals.{length-massesOf}
+use Rattle.meaning.proofs.Lengths.{source-massed, length-entry}
 use Rattle.registers.specs.Keys.{keyAt, numberOfKey, indexOfKey, sortedKeys}
 use Rattle.registers.proofs.Tested.{passed-headed}
 use Rattle.registers.proofs.Passed.{length-sortedKeys, passed-parts, passed-key}
@@ -70,7 +68,7 @@ module _ {b keys stored : List ℕ} {k : ℕ} (r : Ready b keys stored) (l : k <
       let m : method ≡ e .method = f .is ∙ sym (numberAt-drop 1 b (sourcesAt + sourceLength * index) 4) in
       let n : numberOfKey (getD keys k 0) ≡ e .number = known .number in
       let s : take (figureCount * index + figureCount - figureCount * index) (drop (figureCount * index) stored) ≡ figures e = rw q (r .stored index (known .below)) in
-      rw (n, m, s, entry-stated e (length-massesOf (sourceAt b index))) at w
+      rw (n, m, s, entry-stated e (source-massed (sourceAt b index))) at w
 
 pub ruleset entering = (needs, key-there, method-there, figures-there, entry-issued)
 
@@ -78,13 +76,9 @@ pub ruleset entering = (needs, key-there, method-there, figures-there, entry-iss
 unfoldable pub issued : List ℕ → List ℕ → List ℕ
 issued b ks = joined (map entryBytes (map (entryOfKey b) ks))
 
-length-entryBytes : (e : Entry) → length (e .masses) ≡ gasCount → length (entryBytes e) ≡ entryLength
-unfolding statedEntry packed bytesOf
-length-entryBytes e g = rw (← entry-stated e g, length-figureBytes (figures e), length-figures e g)
-
 length-keyed : (b : List ℕ) (key : ℕ) → length (entryBytes (entryOfKey b key)) ≡ entryLength
 unfolding entryOfKey
-length-keyed b key = length-entryBytes (entryOf (sourceAt b (indexOfKey key))) (length-massesOf (sourceAt b (indexOfKey key)))
+length-keyed b key = length-entry (entryOf (sourceAt b (indexOfKey key))) (source-massed (sourceAt b (indexOfKey key)))
 
 length-issued : (b ks : List ℕ) → length (issued b ks) ≡ entryLength * length ks
 unfolding issued joined

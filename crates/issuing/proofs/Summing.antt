@@ -17,7 +17,8 @@ use Rattle.meaning.specs.Register.{sourceCount, sourceAt, sourcesOf}
 use Rattle.meaning.specs.Report.{entryOf, figures, figureCount, figure, totals}
 use Rattle.meaning.specs.Calls.{entriesFor}
 use Rattle.meaning.proofs.Reports.{figure-bounded}
-use Rattle.meaning.proofs.Totals.{totals-inOrder, length-massesOf}
+use Rattle.meaning.proofs.Lengths.{source-massed}
+use Rattle.meaning.proofs.Totals.{totals-inOrder}
 use Rattle.registers.proofs.Tested.{passed-headed}
 use Rattle.fields.specs.Fields.{Field}
 use Rattle.issuing.specs.Ready.{Ready, figureOf, total, totalsOf, Summable}
@@ -87,7 +88,7 @@ module _ {b keys stored : List ℕ} (r : Ready b keys stored) where
         long = omega (arith, f .is, r .long);
         small = λ i k l m.
             let q : i < sourceCount b = omega (arith, f .is) in
-            let g : length (entryOf (sourceAt b i) .masses) ≤ gasCount = omega (arith, length-massesOf (sourceAt b i)) in
+            let g : length (entryOf (sourceAt b i) .masses) ≤ gasCount = omega (arith, source-massed (sourceAt b i)) in
             rw (stored-is i k q m) (omega (arith, figure-bounded k (entryOf (sourceAt b i)) g, r .kept i q));
       }
 

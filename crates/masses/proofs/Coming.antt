@@ -1,7 +1,6 @@
 -- What a source comes to, from the sums of its lines. Assumes nothing.
-use mathlib.Core.Bool.{cond}
 use mathlib.Core.List.{List, [], _∷_, _++_}
-use mathlib.Core.Path.{_≡_, refl, sym, ap, subst, _∙_}
+use mathlib.Core.Path.{_≡_, subst, _∙_}
 use Prim.Native.Nat.{ℕ, zero, suc, _*_, _-_, _≤_, _<_}
 use native.Mathlib.Nat.{zero-mul, sub-zero}
 use native.Mathlib.Omega.{arith}
@@ -11,9 +10,9 @@ use lib.ListN.{length, getD}
 use Rattle.meaning.specs.Report.{figureCount}
 use Rattle.basis.specs.Lists.{countUp}
 use Rattle.meaning.specs.declared.Decoded.{Decoded}
-use Rattle.meaning.specs.Masses.{gasCount, added, taken, belowZero, rounded, mass, masses, equivalent, limit}
+use Rattle.meaning.specs.Masses.{gasCount, added, taken, belowZero, mass, masses, equivalent}
 use Rattle.meaning.proofs.Masses.{only-co2}
-use Rattle.exact.specs.Amounts.{gram, value, scale, nothing}
+use Rattle.exact.specs.Amounts.{value, scale, nothing}
 use Rattle.exact.proofs.Amounts.{room-less}
 use Rattle.exact.proofs.Scales.{mass-scaled, below-zero-scaled}
 use Rattle.masses.specs.declared.Sums.{Sums}

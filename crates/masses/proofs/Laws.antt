@@ -2,7 +2,7 @@
 use mathlib.Core.Bool.{Bool, true, false, cond}
 use mathlib.Core.List.{List}
 use mathlib.Core.Path.{_≡_, refl, sym, ap, ap₂, _∙_}
-use Prim.Native.Nat.{ℕ, _+_, _*_, _≤_, _<_}
+use Prim.Native.Nat.{ℕ, _+_, _*_, _<_}
 use native.Mathlib.Nat.{add-zero, zero-mul, mul-assoc}
 use native.Mathlib.Omega.{arith}
 use lib.Dec.{eqb}
@@ -16,7 +16,7 @@ use Rattle.meaning.specs.declared.RawLine.{RawLine}
 use Rattle.meaning.specs.declared.Line.{Line}
 use Rattle.meaning.specs.declared.Decoded.the-variants.{Good}
 use Rattle.meaning.specs.Register.{lineOf}
-use Rattle.meaning.specs.Masses.{Contribution, gasCount, carbonDioxide, contribution, addsTo, takesFrom}
+use Rattle.meaning.specs.Masses.{gasCount, carbonDioxide, contribution, addsTo, takesFrom}
 use Rattle.methods.specs.declared.Term.{Term}
 use Rattle.methods.specs.Terms.{Weighs, contributed}
 use Rattle.exact.specs.declared.Amount.{Amount}

@@ -1,12 +1,12 @@
 -- The lines of a source, one more at each turn. Assumes nothing.
-use mathlib.Core.Bool.{true, false}
+use mathlib.Core.Bool.{false}
 use mathlib.Core.List.{List, [], _∷_, _++_, map, map-append}
 use mathlib.Core.Path.{_≡_, refl, sym, ap, subst, _∙_}
-use Prim.Native.Nat.{ℕ, zero, suc, _+_, _*_, _-_, _≤_, _<_}
+use Prim.Native.Nat.{ℕ, _+_, _*_, _-_, _≤_, _<_}
 use native.Mathlib.Decide.{decLt}
 use native.Mathlib.Nat.{add-zero, zero-mul, add-mul}
 use native.Mathlib.Omega.{arith}
-use lib.ListN.{length, getD, drop, replicate, getD-replicate}
+use lib.ListN.{getD, drop, replicate, getD-replicate}
 use Rattle.basis.specs.Lists.{sum, countUp}
 use Rattle.basis.proofs.Lists.{sum-append}
 use Rattle.basis.proofs.Counting.{counted-append}
@@ -18,11 +18,10 @@ use Rattle.meaning.specs.Methods.{mostQuantity, decoded, isBad}
 use Rattle.methods.specs.Ranges.{KindFits, LineFits}
 use Rattle.meaning.specs.Register.{mostLines, lineLength, lineOf}
 use Rattle.meaning.specs.Masses.{gasCount, carbonDioxide, added, taken, addsTo, takesFrom}
-use Rattle.exact.specs.Amounts.{value, scale, nothing, Room}
+use Rattle.exact.specs.Amounts.{scale, nothing}
 use Rattle.exact.proofs.Amounts.{value-nothing, room-first, room-less}
 use Rattle.masses.specs.declared.Sums.{Sums}
-use Rattle.masses.specs.declared.Read.{Read}
-use Rattle.masses.specs.Sums.{Roomy, More, Counts}
+use Rattle.masses.specs.Sums.{Roomy, Counts}
 use Rattle.masses.specs.Lines.{readAt, readFrom, Lines, Holds, Summed, Reads}
 
 -- one line more is read behind the others

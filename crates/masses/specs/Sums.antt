@@ -1,12 +1,12 @@
 -- What the lines of a source come to, in ten-billionths of a gram. Assumes nothing.
 use mathlib.Core.Path.{_≡_}
-use Prim.Native.Nat.{ℕ, _+_, _*_, _≤_, _<_}
+use Prim.Native.Nat.{ℕ, _+_, _*_, _<_}
 use lib.ListN.{length, getD}
 use Rattle.meaning.specs.declared.Line.{Line}
 use Rattle.meaning.specs.declared.Decoded.the-variants.{Good}
 use Rattle.meaning.specs.Masses.{gasCount, carbonDioxide, addsTo, takesFrom}
 use Rattle.exact.specs.declared.Amount.{Amount}
-use Rattle.exact.specs.Amounts.{value, scale, nothing, Room, Added}
+use Rattle.exact.specs.Amounts.{value, scale, nothing, Room}
 use Rattle.masses.specs.declared.Sums.{Sums}
 
 -- each sum has room for so many lines more

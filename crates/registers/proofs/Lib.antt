@@ -1,4 +1,3 @@
-pub mod Scans
 pub mod LaidOut
 pub mod Tested
 pub mod Names

@@ -23,7 +23,7 @@ use Rattle.registers.specs.Layout.{Headed}
 use Rattle.registers.specs.Keys.{Tested}
 use Rattle.registers.specs.Lookups.{Seeks}
 use Rattle.registers.proofs.sources.Entries.{has-entry}
-use Rattle.registers.proofs.Scans.{Scanning, scan-none, scan-found, scan-more, scan-all}
+use Rattle.basis.proofs.Scans.{Scanning, scan-none, scan-found, scan-more, scan-all}
 use Rattle.registers.proofs.Tested.{passed-headed, passed-right}
 
 pub accepted-is : {b keys left : List ℕ} {v : Verdict} {ok : Bool} → Tested b keys v left → ok ≡ passes v → ok ≡ accepted b

@@ -1,16 +1,12 @@
 -- The loops that read and add figures: how each begins, goes on and ends. Assumes nothing.
-use mathlib.Core.List.{List, [], _∷_, _++_, map, append-nil}
-use mathlib.Core.Path.{_≡_, refl, sym, ap, _∙_}
-use Prim.Native.Nat.{ℕ, suc, _+_, _*_, _-_, _≤_, _<_}
-use native.Mathlib.Nat.{add-zero, sub-zero}
-use native.Mathlib.Numerals.{add-one}
+use mathlib.Core.List.{List}
+use mathlib.Core.Path.{_≡_}
+use Prim.Native.Nat.{ℕ, _+_, _*_, _≤_, _<_}
 use native.Mathlib.Omega.{arith}
 use mir.Syntax.{w64}
 use mir.Val.{Fits}
 use borrow.Author.Needs.{needs}
-use lib.ListN.{length, getD, take, drop, set, length-set}
-use lib.Seq.{take-all, take-suc-set, drop-set-lt, drop-drop, getD-drop, append-snoc}
-use Rattle.basis.specs.Lists.{countUp}
+use lib.ListN.{length, getD, set}
 use Rattle.fields.specs.Fields.{Field}
 use Rattle.basis.proofs.Filling.{Filled, filled-none, filled-now, filled-more, filled-all}
 use Rattle.reports.specs.Figures.{figureAt, figuresAt, addedAt, Addable}

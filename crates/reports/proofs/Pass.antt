@@ -3,18 +3,17 @@ use mathlib.Core.Bool.{Bool, true, false, not, _&&_, _||_}
 use mathlib.Core.List.{List, [], _∷_, _++_, map}
 use mathlib.Core.Path.{_≡_, refl, sym, ap, _∙_}
 use Prim.Native.Nat.{ℕ, zero, suc, _+_, _*_, _-_, _≤_, _<_}
-use native.Mathlib.Nat.{add-assoc, add-zero, zero-add, sub-zero}
+use native.Mathlib.Nat.{add-zero, zero-add, sub-zero}
 use native.Mathlib.Numerals.{add-one}
 use native.Mathlib.Omega.{arith}
 use borrow.Author.Needs.{needs}
 use lib.Dec.{eqb}
 use lib.ListN.{length, getD}
-use Rattle.basis.specs.Bytes.{numberAt}
 use Rattle.basis.specs.Lists.{sum, countUp, any}
 use Rattle.basis.proofs.Rows.{numberAt-drop}
 use Rattle.meaning.specs.Masses.{limit}
 use Rattle.meaning.specs.Register.{mostSources}
-use Rattle.meaning.specs.Report.{Entry, figureCount, figure, totals, entriesAt, entryLength, reportLength, entryCount, entryAt, entryIn, entriesOf, numberBefore, wrongEntry, wrongTotal}
+use Rattle.meaning.specs.Report.{Entry, figureCount, totals, entriesAt, entryLength, reportLength, entryCount, entryAt, entryIn, entriesOf, numberBefore, wrongEntry, wrongTotal}
 use Rattle.meaning.proofs.Reports.{RightEntry, right-entry, length-totals, total-is, totals-by, total-more}
 use Rattle.fields.specs.Fields.{Field}
 use Rattle.reports.specs.Figures.{figureAt, addedAt, Addable}

@@ -1,5 +1,6 @@
+use native.Mathlib.Omega.{arith}
 use borrow.Author.Needs.{needs}
-use Rattle.calculating.proofs.Calculating.{issued}
+use Rattle.calculating.proofs.Calculating.{ready-long, issued}
 use Rattle.calculating.proofs.issue.Statement.{statement}
 use Rattle.calculating.proofs.issue.Tie as tie
 
@@ -7,7 +8,7 @@ pub issue-spec : {M : Type 1} → statement M
 issue-spec =
     tie.close
     (tie.spec
-    (λ c κs. search issued)
+    (λ c κs. omega (arith, ready-long (c .before .before .before .before .pre .0)))
     (search needs)
     (λ c. search issued)
     (λ c κs. search issued)

@@ -16,7 +16,7 @@ use Rattle.meaning.specs.Register.{sourceCount, lineStart, nameStart, wrongSour
 use Rattle.registers.specs.Layout.{Headed, Begins}
 use Rattle.registers.proofs.header.Laws.{heard}
 use Rattle.registers.proofs.sources.Entries.{has-entry}
-use Rattle.registers.proofs.Scans.{Scanning, scan-none, scan-found, scan-more, scan-all}
+use Rattle.basis.proofs.Scans.{Scanning, scan-none, scan-found, scan-more, scan-all}
 
 -- the entries before i are right, and the next has to begin at a line and a name byte
 pub record Passing (b : List ℕ) (n i line byte : ℕ) : Type 0 where
