@@ -1,27 +1,26 @@
 -- What a call leaves at the front of its buffer, and what the program says of it. Assumes nothing.
-use mathlib.Core.Bool.{Bool, true, false, cond}
 use mathlib.Core.List.{List, [], _∷_, _++_}
 use mathlib.Core.Path.{_≡_, refl, sym, ap, _∙_}
 use Prim.Native.Nat.{ℕ, _+_, _≤_}
 use native.Mathlib.Omega.{arith}
 use borrow.Author.Needs.{needs}
 use borrow.Author.Tests.{ltb-false, ne-eqb}
-use lib.Dec.{ltb, eqb}
+use lib.Dec.{ltb}
 use lib.ListN.{length, take, drop, replicate}
 use lib.Seq.{take-at, length-take-le}
 use Rattle.basis.specs.declared.Answer.{Answer}
 use Rattle.basis.specs.declared.Verdict.{Verdict}
 use Rattle.basis.specs.declared.Verdict.the-variants.{Passes, Refuses}
-use Rattle.basis.specs.Answers.{firstRefusal, settled, Outcome, Gives}
+use Rattle.basis.specs.Answers.{firstRefusal, settled, Gives}
 use Rattle.basis.specs.Bytes.{splice, Written}
 use Rattle.basis.proofs.Answers.{each-passes, passed-append, passed-if}
 use Rattle.basis.proofs.Bytes.{splice-none, length-written}
-use Rattle.meaning.specs.Text.{reportText, refusedLine}
-use Rattle.meaning.specs.Report.{reportYear, entriesOf}
+use Rattle.meaning.specs.Text.{refusedLine}
 use Rattle.meaning.specs.Calls.{roomTest, written, formTest, text, calculationTests, calculatedReport, calculated}
 use Rattle.texts.specs.Digits.{Fronted}
+use Rattle.texts.specs.Rows.{textOf}
 use Rattle.report.specs.declared.Input.{Input}
-use Rattle.report.specs.declared.Input.the-variants.{Failed, Came}
+use Rattle.report.specs.declared.Input.the-variants.{Came}
 use Rattle.report.specs.Output.{Within, said, textOutput, output}
 
 -- a part of a list is as long as it is asked to be
@@ -75,6 +74,16 @@ unfolding settled
 settled-kept Passes made buffer g f = absurd (f (ap (λ (a : Answer). a .number) (g .answers)))
 settled-kept (Refuses number place) made buffer g f = g .leaves
 
+-- a call's buffer: what it made stands at the front, and a refusal leaves all as it was
+module _ (tests : List Verdict) (made buffer : List ℕ) {a : Answer} {left : List ℕ} (g : Gives (written tests made buffer) a left) where
+  written-front : Fronted buffer (take (a .length) left) left (a .length)
+  unfolding written
+  written-front = settled-front (firstRefusal (tests ++ (roomTest made buffer ∷ []))) made buffer (room-passed tests made buffer) g
+
+  written-kept : (a .number ≡ 0 → ⊥) → left ≡ buffer
+  unfolding written
+  written-kept f = settled-kept (firstRefusal (tests ++ (roomTest made buffer ∷ []))) made buffer g f
+
 -- what is said of an answer goes by its number
 said-made : (a : Answer) (made : List ℕ) → a .number ≡ 0 → said a made ≡ made
 said-made a made e = rw e
@@ -88,22 +97,16 @@ module _ (report room : List ℕ) {a : Answer} {left : List ℕ} (g : Gives (tex
   text-is = rw (← g .answers, ← g .leaves)
 
   text-front : Fronted room (take (a .length) left) left (a .length)
-  unfolding text written
-  text-front =
-      let tests = formTest report 1 ∷ [] in
-      let made = reportText (reportYear report) (entriesOf report) in
-      settled-front (firstRefusal (tests ++ (roomTest made room ∷ []))) made room (room-passed tests made room) g
+  unfolding text
+  text-front = written-front (formTest report 1 ∷ []) (textOf report) room g
 
   pub text-made : a .number ≡ 0 → Fronted room (textOutput report room) left (a .length)
   text-made e = rw (text-is ∙ said-made a (take (a .length) left) e) text-front
 
   module _ (f : a .number ≡ 0 → ⊥) where
     text-kept : left ≡ room
-    unfolding text written
-    text-kept =
-        let tests = formTest report 1 ∷ [] in
-        let made = reportText (reportYear report) (entriesOf report) in
-        settled-kept (firstRefusal (tests ++ (roomTest made room ∷ []))) made room g f
+    unfolding text
+    text-kept = written-kept (formTest report 1 ∷ []) (textOf report) room g f
 
     pub text-refused : {zs : List ℕ} {n : ℕ} → Fronted left (refusedLine (a .number) (a .place)) zs n → Fronted room (textOutput report room) zs n
     text-refused w = rw (text-is ∙ said-refused a (take (a .length) left) f, ← text-kept) w
@@ -114,12 +117,8 @@ module _ (register : List ℕ) {a : Answer} {left : List ℕ} (g : Gives (calcul
   output-is room = rw (← g .answers, ← g .leaves)
 
   report-front : Fronted (replicate 20536 0) (take (a .length) left) left (a .length)
-  unfolding calculated written
-  report-front =
-      let tests = calculationTests register in
-      let made = calculatedReport register in
-      let room : List ℕ = replicate 20536 0 in
-      settled-front (firstRefusal (tests ++ (roomTest made room ∷ []))) made room (room-passed tests made room) g
+  unfolding calculated
+  report-front = written-front (calculationTests register) (calculatedReport register) (replicate 20536 0) g
 
   pub report-within : a .length ≤ length left
   report-within = report-front .within
