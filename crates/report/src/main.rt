@@ -10,7 +10,7 @@ use libc::STDIN_FILENO;
 use libc::STDOUT_FILENO;
 
 // One byte more than the longest register, 32 + 16 * 512 + 20 * 1024 + 16384. No header that passes states a longer one, and what it
-// states must be the length lent, so this much of a longer input is answered just as the whole of it would be.
+// states must be the length lent, so this much of a longer input is answered just as the whole of it would be (`output-same`).
 const REGISTER_ROOM: usize = 45089;
 
 // 56 + 40 * 512, the longest report.
