@@ -8,7 +8,7 @@ use native.Mathlib.Omega.{arith}
 use lib.Dec.{leb}
 use borrow.Author.Tests.{le-leb, lt-leb, leb-true, leb-false}
 use lib.ListN.{length, getD}
-use Rattle.basis.specs.Lists.{Each, sum, countUp, insertBy, sortedBy}
+use Rattle.basis.specs.Lists.{Each, sum, countUp, insertBy, sortedBy, without}
 
 -- what is said of each of a list, one by one
 infixr 20 _&_
@@ -145,3 +145,9 @@ module _ {A B : Type 0} (f : A → B) (key : A → ℕ) (other : B → ℕ) wher
   unfolding sortedBy
   sort-map [] h = refl
   sort-map (x ∷ xs) h = insert-map x (sortedBy key xs) (sortedBy-each key (Alike x) xs (h .0)) ∙ ap (insertBy other (f x)) (sort-map xs (h .1))
+
+-- where none has a test, nothing is left out
+pub without-none : {A : Type 0} (test : A → Bool) (xs : List A) → Each (λ x. test x ≡ false) xs → without test xs ≡ xs
+unfolding without
+without-none test [] p = refl
+without-none test (x ∷ xs) p = rw (p .0, without-none test xs (p .1))

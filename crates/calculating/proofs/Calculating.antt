@@ -1,11 +1,11 @@
 -- Calculation as its tests in order: what each part of the code finds is what the call answers. Assumes nothing.
-use mathlib.Core.Bool.{Bool, true, false, cond}
+use mathlib.Core.Bool.{false}
 use mathlib.Core.List.{List, [], _∷_, map}
-use mathlib.Core.Path.{_≡_, refl, sym, ap, _∙_}
-use Prim.Native.Nat.{ℕ, _+_, _*_, _≤_, _<_}
+use mathlib.Core.Path.{_≡_, sym, ap, _∙_}
+use Prim.Native.Nat.{ℕ, _*_, _≤_, _<_}
 use native.Mathlib.Omega.{arith}
 use borrow.Author.Needs.{needs}
-use borrow.Author.Tests.{ltb-false, le-ltb}
+use borrow.Author.Tests.{le-ltb}
 use lib.Dec.{ltb}
 use lib.ListN.{length, drop}
 use lib.Seq.{take-at}
@@ -17,15 +17,15 @@ use Rattle.basis.specs.Lists.{Each}
 use Rattle.basis.specs.Answers.{firstRefusal, Gives}
 use Rattle.basis.proofs.Answers.{passed-then, refused-then, each-passes}
 use Rattle.basis.proofs.Lists.{sortedBy-each}
-use Rattle.meaning.specs.Masses.{belowZero, masses, equivalent, limit}
-use Rattle.meaning.specs.Register.{Source, yearOf, sourceCount, mostSources, sourcesAt, sourceAt, sourcesOf, decodedLines, registerTests}
+use Rattle.meaning.specs.Masses.{equivalent, limit}
+use Rattle.meaning.specs.Register.{Source, yearOf, sourceCount, mostSources, sourcesAt, sourceAt, sourcesOf, registerTests}
 use Rattle.meaning.specs.Report.{entryOf, inOrder, figureCount, reportLength}
-use Rattle.meaning.specs.Calls.{lineTest, massFault, massTest, entriesFor, calculationTests, calculatedReport, calculated}
+use Rattle.meaning.specs.Calls.{lineTest, massTest, entriesFor, calculationTests, calculatedReport, calculated}
 use Rattle.meaning.proofs.Calls.{refused-gives, short-gives, made-gives}
 use Rattle.meaning.proofs.Laws.{one-entry-each}
 use Rattle.meaning.proofs.Lengths.{Massed, source-massed, length-report}
 use Rattle.meaning.proofs.Registers.{right-register}
-use Rattle.meaning.proofs.Sources.{length-sources}
+use Rattle.meaning.proofs.Sources.{length-sources, kept-within}
 use Rattle.registers.specs.Keys.{sortedKeys, keysFor, Tested}
 use Rattle.registers.proofs.Passed.{length-sortedKeys}
 use Rattle.registers.proofs.Tested.{passed-headed, keys-left}
@@ -64,20 +64,11 @@ source-refused {b} {report = report} h j e =
     (passed-then (registerTests b) (lineTest (sourcesOf b) ∷ massTest (sourcesOf b) ∷ []) (h .tests) ∙ sym (j .verdict) ∙ e)
 
 -- where nothing refuses, each equivalent keeps the limit
-fault-none : (s : Source) → massFault s ≡ 0 → equivalent (masses (decodedLines s)) ≤ limit
-unfolding massFault
-fault-none s e = by (belowZero (decodedLines s)) (ltb limit (equivalent (masses (decodedLines s)))) refl e
-  where
-    by : (c d : Bool) → ltb limit (equivalent (masses (decodedLines s))) ≡ d → _≡_ {A = ℕ} (cond c 6 (cond d 7 0)) 0 → equivalent (masses (decodedLines s)) ≤ limit
-    by true d q h = absurd (omega arith)
-    by false true q h = absurd (omega arith)
-    by false false q h = ltb-false _ _ q
-
-kept-within : {b kept : List ℕ} {v : Verdict} → Judged b v kept → v ≡ Passes → (i : ℕ) → i < sourceCount b → equivalent (entryOf (sourceAt b i) .masses) ≤ limit
+each-kept : {b kept : List ℕ} {v : Verdict} → Judged b v kept → v ≡ Passes → (i : ℕ) → i < sourceCount b → equivalent (entryOf (sourceAt b i) .masses) ≤ limit
 unfolding entryOf
-kept-within {b} j e i l =
+each-kept {b} j e i l =
     let m = each-passes (lineTest (sourcesOf b) ∷ massTest (sourcesOf b) ∷ []) (sym (j .verdict) ∙ e) .1 .0 in
-    fault-none (sourceAt b i) (none-faulty b m i l)
+    kept-within (sourceAt b i) (none-faulty b m i l)
 
 -- the report of all sources is as long as their count says
 each-massed : (ss : List Source) → Each Massed (map entryOf ss)
@@ -96,7 +87,7 @@ pub all-passed : {b kept : List ℕ} {v : Verdict} → Passed b → Judged b v k
 all-passed {b} h j e = passed-then (registerTests b) (lineTest (sourcesOf b) ∷ massTest (sourcesOf b) ∷ []) (h .tests) ∙ sym (j .verdict) ∙ e
 
 pub ready : {b keys kept₀ kept : List ℕ} {v : Verdict} → Keyed b keys kept₀ → length kept ≡ length kept₀ → Judged b v kept → v ≡ Passes → Ready b keys kept
-ready h n j e = record { passes = h .passed .tests; order = h .order; long = omega (arith, h .room); stored = j .stored e; kept = kept-within j e }
+ready h n j e = record { passes = h .passed .tests; order = h .order; long = omega (arith, h .room); stored = j .stored e; kept = each-kept j e }
 
 -- its count of sources can be read
 pub ready-long : {b keys kept : List ℕ} → Ready b keys kept → sourcesAt ≤ length b

@@ -1,44 +1,29 @@
 -- A source of a register that has passed: its lines, its fault, its figures. Assumes nothing.
-use mathlib.Core.Bool.{true, false, not, _||_}
+use mathlib.Core.Bool.{true, false}
 use mathlib.Core.List.{List, map, map-map}
 use mathlib.Core.Path.{_≡_, sym, ap, _∙_}
 use Prim.Native.Nat.{ℕ, _+_, _*_, _-_, _<_}
 use native.Mathlib.Omega.{arith}
-use borrow.Author.Tests.{eqb-true, eqb-false, not-false}
+use borrow.Author.Tests.{eqb-true, eqb-false}
 use lib.Dec.{eqb}
-use lib.ListN.{length}
-use Rattle.basis.specs.Lists.{countUp, any}
+use Rattle.basis.specs.Lists.{countUp}
 use Rattle.basis.proofs.Bools.{or-false}
 use Rattle.fields.specs.Fields.{Field}
-use Rattle.meaning.specs.Methods.{within, listed, decoded}
-use Rattle.meaning.specs.Register.{Source as Register·Source, sourcesAt, sourceLength, linesAt, sourceCount, lineAt, sourceEntry, methodIn, parameterIn, firstLineIn, lineCountIn, sourceAt, badNameByte, unsound, misplaced, wrongSource, decodedLines}
+use Rattle.fields.proofs.Laws.{field-behind}
+use Rattle.meaning.specs.Methods.{listed, decoded}
+use Rattle.meaning.specs.Register.{sourcesAt, sourceLength, linesAt, sourceCount, lineAt, sourceEntry, methodIn, parameterIn, firstLineIn, lineCountIn, sourceAt, unsound, misplaced, wrongSource, decodedLines}
 use Rattle.meaning.specs.Report.{entryOf, figures}
-use Rattle.meaning.specs.Calls.{massFault}
-use Rattle.meaning.proofs.Sources.{placed}
+use Rattle.meaning.proofs.Sources.{placed, sound-parts}
 use Rattle.masses.specs.declared.Source.{Source}
 use Rattle.masses.specs.Lines.{readAt, readFrom, Lines}
-use Rattle.masses.specs.Judged.{faultOf, Comes}
+use Rattle.masses.specs.Judged.{Comes}
 use Rattle.meaning.proofs.Registers.{right-register}
-use Rattle.basis.proofs.Rows.{numberAt-drop}
 use Rattle.calculating.specs.Sources.{Passed, ComesAt}
 
 -- the pair of a sound source is listed
-sound-pair : (s : Register·Source) → unsound s ≡ false → listed (s .method) (s .parameter) ≡ true
-unfolding unsound
-sound-pair s e =
-    let A = eqb (s .number) 0 in
-    let B = not (listed (s .method) (s .parameter)) in
-    let C = eqb (length (s .lines)) 0 in
-    let D = not (within 1 64 (length (s .name))) in
-    not-false _ (or-false A B (or-false (A || B) C (or-false (A || B || C) D (or-false (A || B || C || D) (any badNameByte (s .name)) e .0) .0) .0) .1)
-
 unsound-listed : (b : List ℕ) (i : ℕ) → unsound (sourceAt b i) ≡ false → listed (methodIn (sourceEntry b i)) (parameterIn (sourceEntry b i)) ≡ true
 unfolding sourceAt
-unsound-listed b i e = sound-pair (sourceAt b i) e
-
--- a field of entry i, read at its place in the register
-field-in : {k n : ℕ} {b : List ℕ} (i at : ℕ) → Field k b (sourcesAt + sourceLength * i + at) n → Field k (sourceEntry b i) at n
-field-in {k} {n} {b} i at f = record { is = f .is ∙ sym (numberAt-drop k b (sourcesAt + sourceLength * i) at); small = f .small }
+unsound-listed b i e = sound-parts (sourceAt b i) e .pair
 
 -- what entry i states of its lines
 pub record States (b : List ℕ) (i n method parameter count first : ℕ) : Type 0 where
@@ -50,7 +35,9 @@ pub record States (b : List ℕ) (i n method parameter count first : ℕ) : Type
 
 pub states : {b : List ℕ} {n method parameter count first : ℕ} (i : ℕ) → Field 2 b 8 n → Field 1 b (sourcesAt + sourceLength * i + 4) method → Field 1 b (sourcesAt + sourceLength * i + 5) parameter
     → Field 2 b (sourcesAt + sourceLength * i + 6) count → Field 2 b (sourcesAt + sourceLength * i + 8) first → States b i n method parameter count first
-states i n m p c f = record { all = n .is; ofMethod = field-in i 4 m .is; ofParameter = field-in i 5 p .is; lines = field-in i 6 c .is; from = field-in i 8 f .is }
+states i n m p c f =
+    let e = sourcesAt + sourceLength * i in
+    record { all = n .is; ofMethod = field-behind e 4 m .is; ofParameter = field-behind e 5 p .is; lines = field-behind e 6 c .is; from = field-behind e 8 f .is }
 
 module _ {b : List ℕ} {i n method parameter count first : ℕ} (h : Passed b) (l : i < sourceCount b) (s : States b i n method parameter count first) where
   right : (misplaced b i ≡ false) × (unsound (sourceAt b i) ≡ false)
@@ -88,7 +75,7 @@ module _ {b : List ℕ} {i n method parameter count first : ℕ} (h : Passed b) 
 
   pub comes-at : {r : Source} → Comes b method parameter first (first + count) r
       → ComesAt b i (record { good = eqb (r .at) (first + count); line = r .at; fault = r .fault; figures = r .figures })
-  unfolding massFault faultOf entryOf figures
+  unfolding entryOf figures
   comes-at {r} c =
       let q : first + count ≡ firstLine + lines = omega (arith, s .from, s .lines) in
       let d : Comes b m p firstLine (firstLine + lines) r = rw (s .ofMethod, s .ofParameter, s .from, s .lines) at c in

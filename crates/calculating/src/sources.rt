@@ -9,9 +9,9 @@ ghost use Rattle.calculating.specs.Sources.{Passed, ComesAt, waited, Jud
 use basis::Verdict;
 use masses::FIGURES;
 
-pub const SOURCES: usize = 32;
+const SOURCES: usize = 32;
 
-pub const SOURCE: usize = 16;
+const SOURCE: usize = 16;
 
 // A source of a register: whether its lines are good, the first that is not, and else what it comes to.
 struct Judgement {

@@ -1,13 +1,13 @@
 -- What calculation makes of sources that nothing refuses, and that it refuses exactly when the table says. Assumes nothing.
-use mathlib.Core.Bool.{Bool, true, false, cond, _||_, _&&_, not}
+use mathlib.Core.Bool.{Bool, true, false, _||_, _&&_, not}
 use mathlib.Core.List.{List, [], _∷_, _++_, map, append-assoc}
 use mathlib.Core.Logic.{⊎-elim, _≢_}
 use mathlib.Core.Path.{_≡_, refl, sym, ap, _∙_}
 use Prim.Native.Nat.{ℕ, _+_, _*_, _^_, _≤_, _<_}
 use native.Mathlib.Omega.{arith}
-use lib.Dec.{eqb, ltb}
+use lib.Dec.{eqb}
 use lib.ListN.{length, getD, length-map, List·getD-map}
-use borrow.Author.Tests.{ltb-false, eqb-true, eq-eqb, not-false}
+use borrow.Author.Tests.{eqb-true, eq-eqb, not-false}
 use Rattle.basis.specs.declared.Verdict.{Verdict}
 use Rattle.basis.specs.declared.Verdict.the-variants.{Passes}
 use Rattle.basis.specs.Bytes.{Bytes}
@@ -18,13 +18,13 @@ use Rattle.basis.proofs.Lists.{_&_, length-sortedBy, each-at, at-each, each-map
 use Rattle.basis.proofs.Bools.{clash, and-true, not-both, or-either}
 use Rattle.meaning.specs.declared.Decoded.the-variants.{Bad}
 use Rattle.meaning.specs.Methods.{within, listed, isBad}
-use Rattle.meaning.specs.Masses.{belowZero, masses, equivalent, limit}
+use Rattle.meaning.specs.Masses.{masses}
 use Rattle.meaning.specs.Register.{Source, yearOf, sourceCount, mostSources, sourcesAt, sourceLength, sourceEntry, sourceAt, sourcesOf, unsound, decodedLines, registerTests}
 use Rattle.meaning.specs.Report.{entryOf, inOrder, reportBytes, reportLength}
 use Rattle.meaning.specs.Calls.{roomTest, badLine, lineTest, massFault, faultAt, massTest, entriesFor, calculated, calculationTests, calculatedReport}
 use Rattle.meaning.proofs.Laws.{one-entry-each}
 use Rattle.meaning.proofs.Lengths.{source-massed}
-use Rattle.meaning.proofs.Sources.{noSource, sourceNumber, length-sources, source-at}
+use Rattle.meaning.proofs.Sources.{noSource, sourceNumber, length-sources, source-at, sound-parts, kept-within}
 use Rattle.demands.specs.Valid.{Entered, Distinct, entryNumber, Reportable}
 use Rattle.demands.specs.Demand1.{Answers}
 use Rattle.demands.specs.Table.{Among}
@@ -39,7 +39,7 @@ use Rattle.demands.proofs.Compared.{room-decides, enough-room}
 use Rattle.demands.proofs.Exactly.{decide-append, DecideAll, Numbered, exactly-written, zero-passes, answers}
 use Rattle.demands.proofs.Reports.{length-report}
 use Rattle.demands.proofs.RegisterTests.{register-decides}
-use Rattle.demands.proofs.Registers.{sound-parts, Passed, passed, passing}
+use Rattle.demands.proofs.Registers.{Passed, passed, passing}
 use Rattle.demands.proofs.Calculation.{no-fault, line-decides, mass-decides}
 
 -- a source that nothing refuses, with a number of four bytes
@@ -66,15 +66,6 @@ method-listed m p e =
         ⊎-elim
         (λ h. ⊎-elim (λ h. ⊎-elim (is 1 (omega arith) (omega arith)) (is 2 (omega arith) (omega arith)) (or-either (eqb m 1) (eqb m 2) h)) (is 3 (omega arith) (omega arith)) (or-either (eqb m 1 || eqb m 2) (eqb m 3) h))
         (is 5 (omega arith) (omega arith)) (or-either (eqb m 1 || eqb m 2 || eqb m 3) (eqb m 5) h)
-
-kept-within : (s : Source) → massFault s ≡ 0 → equivalent (masses (decodedLines s)) ≤ limit
-unfolding massFault
-kept-within s e = by (belowZero (decodedLines s)) (ltb limit (equivalent (masses (decodedLines s)))) refl e
-  where
-    by : (c d : Bool) → ltb limit (equivalent (masses (decodedLines s))) ≡ d → _≡_ {A = ℕ} (cond c 6 (cond d 7 0)) 0 → equivalent (masses (decodedLines s)) ≤ limit
-    by true d q h = absurd (omega arith)
-    by false true q h = absurd (omega arith)
-    by false false q h = ltb-false _ _ q
 
 pub entered : (s : Source) → Calculable s → Entered (entryOf s)
 unfolding entryOf masses

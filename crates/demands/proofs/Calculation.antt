@@ -15,7 +15,7 @@ use Rattle.meaning.specs.declared.Decoded.the-variants.{Good, Bad}
 use Rattle.meaning.specs.Methods.{decoded, isBad}
 use Rattle.meaning.specs.Masses.{added, taken, belowZero, rounded, mass, masses, weighed, equivalent, limit}
 use Rattle.meaning.specs.Register.{sourceCount, lineCount, nameBytes, sourceAt, sourcesOf, lineStart, nameStart, decodedLines}
-use Rattle.meaning.specs.Calls.{badLine, lineTest, massFault, faultAt, massTest}
+use Rattle.meaning.specs.Calls.{badLine, lineTest, faultOf, massFault, faultAt, massTest}
 use Rattle.meaning.proofs.Sources.{Placed as Standing, noSource, length-sources, source-at}
 use Rattle.demands.specs.Valid.{LaidRight}
 use Rattle.demands.specs.Exactly.{at, atSmallest, withNumber}
@@ -61,7 +61,7 @@ abbrev picked : Bool → Bool → ℕ
 picked c d = cond c 6 (cond d 7 0)
 
 fault-is : (b : List ℕ) (i : ℕ) → any isBad (decodedLines (sourceAt b i)) ≡ false → massFault (sourceAt b i) ≢ 0 → MassFault b (massFault (sourceAt b i)) i
-unfolding massFault decodedLines sourceAt
+unfolding faultOf decodedLines sourceAt
 fault-is b i good h = by (belowZero ds) refl (ltb limit (equivalent (masses ds))) refl h
   where
     m : ℕ
@@ -82,7 +82,7 @@ fault-is b i good h = by (belowZero ds) refl (ltb limit (equivalent (masses ds))
     by false e false q h = absurd (h refl)
 
 is-fault : (b : List ℕ) (i n : ℕ) → any isBad (decodedLines (sourceAt b i)) ≡ false → MassFault b n i → massFault (sourceAt b i) ≡ n
-unfolding massFault decodedLines sourceAt
+unfolding faultOf decodedLines sourceAt
 is-fault b i n good (inl f) = rw (then-below (method b i) (parameter b i) (linesOf b i) (f .1)) (sym (f .0))
 is-fault b i n good (inr f) =
     let m = method b i in
@@ -95,7 +95,7 @@ fault-at : (b : List ℕ) (i : ℕ) → i < sourceCount b → getD (map massFaul
 fault-at b i l = List·getD-map massFault (sourcesOf b) i noSource ∙ ap massFault (source-at b i l)
 
 pub no-fault : massFault noSource ≡ 0
-unfolding massFault belowZero decodedLines added taken sum masses mass rounded countUp equivalent weighed
+unfolding faultOf belowZero decodedLines added taken sum masses mass rounded countUp equivalent weighed
 no-fault = refl
 
 fault-not-none : (b : List ℕ) (n i : ℕ) → MassFault b n i → n ≢ 0

@@ -17,7 +17,7 @@ use Rattle.meaning.specs.Masses.{added, taken, belowZero, masses, equivalent, l
 use Rattle.meaning.specs.Register.{Source, yearOf, sourcesOf, decodedLines}
 use Rattle.meaning.specs.Report.{Entry, entryOf, inOrder, reportBytes, reportYear, entriesOf}
 use Rattle.meaning.specs.Methods.{decoded}
-use Rattle.meaning.specs.Calls.{massFault, entriesFor, bothEntries, numbered, calculated, combined, removed, combinationTests, combinedReport, removalTests, removedReport, calculationTests, calculatedReport}
+use Rattle.meaning.specs.Calls.{faultOf, massFault, entriesFor, bothEntries, numbered, calculated, combined, removed, combinationTests, combinedReport, removalTests, removedReport, calculationTests, calculatedReport}
 use Rattle.meaning.proofs.Laws.{one-entry-each, entries-of-both}
 use Rattle.meaning.proofs.Sources.{length-sources}
 use Rattle.demands.specs.Table.{adds, takes, total}
@@ -33,7 +33,7 @@ use Rattle.demands.proofs.ReportCalls.{both-reportable, without-make, c
 use Rattle.demands.proofs.Removal.{without-perm}
 
 not-below : (s : Source) → massFault s ≡ 0 → taken 0 (decodedLines s) ≤ added 0 (decodedLines s)
-unfolding massFault belowZero
+unfolding faultOf belowZero
 not-below s e = by (belowZero (decodedLines s)) refl e
   where
     by : (c : Bool) → belowZero (decodedLines s) ≡ c → _≡_ {A = ℕ} (cond c 6 (cond (ltb limit (equivalent (masses (decodedLines s)))) 7 0)) 0

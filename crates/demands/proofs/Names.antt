@@ -20,12 +20,12 @@ use Rattle.meaning.specs.declared.Part.{Part}
 use Rattle.meaning.specs.declared.Found.{Found}
 use Rattle.meaning.specs.Register.{sourceCount, sourceEntry, numberIn, nameLengthIn, namePlace, sourceAt, sourcesOf, registerTests}
 use Rattle.meaning.specs.Calls.{accepted, hasNumber, indexOf, holds, nameAt, found, inRegister, foundOfTwo}
-use Rattle.meaning.proofs.Sources.{noSource, sourceNumber, length-sources, source-at}
+use Rattle.meaning.proofs.Sources.{noSource, sourceNumber, length-sources, source-at, sound-parts}
 use Rattle.demands.specs.Refusals.{registerRows}
 use Rattle.demands.specs.Demand2.{Refused, Numbered, Absent, IsName, partOf, Names}
 use Rattle.demands.proofs.Exactly.{first-decides}
 use Rattle.demands.proofs.RegisterTests.{register-decides}
-use Rattle.demands.proofs.Registers.{sound-parts, Passed, passed, distinct-lt}
+use Rattle.demands.proofs.Registers.{Passed, passed, distinct-lt}
 use Rattle.demands.proofs.Calculation.{standing}
 
 -- a register is accepted exactly where no row of 1 to 4 refuses it

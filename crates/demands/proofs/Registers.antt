@@ -1,21 +1,20 @@
 -- A register that passes 1 to 4 is laid right, its sources are sound, and no number stands twice; and the other way round. Assumes nothing.
-use mathlib.Core.Bool.{true, false, not}
+use mathlib.Core.Bool.{false, not}
 use mathlib.Core.List.{List, [], _∷_, map}
 use mathlib.Core.Logic.{_≢_}
 use mathlib.Core.Path.{_≡_, sym, ap, _∙_}
-use Prim.Native.Nat.{ℕ, zero, suc, _≤_, _<_, zero-le, suc-le-suc}
+use Prim.Native.Nat.{ℕ, zero, suc, _<_, zero-le, suc-le-suc}
 use native.Mathlib.Nat.{not-suc-le-zero, le-of-suc-le-suc}
 use native.Mathlib.Omega.{arith}
 use lib.Dec.{leb}
 use lib.ListN.{length, getD, length-map, List·getD-map}
-use borrow.Author.Tests.{leb-true, eqb-false, le-leb, not-false}
+use borrow.Author.Tests.{le-leb}
 use Rattle.basis.proofs.Lists.{_&_, each-at, at-each}
 use Rattle.basis.specs.declared.Verdict.the-variants.{Passes}
 use Rattle.basis.specs.Bytes.{numberAt, startsWith}
 use Rattle.basis.specs.Answers.{firstRefusal}
 use Rattle.basis.proofs.Answers.{passed-at-all, passes-each, if-passed}
-use Rattle.basis.proofs.Bools.{clash, and-true, true-and, or-false, false-or, not-both}
-use Rattle.meaning.specs.Methods.{listed}
+use Rattle.basis.proofs.Bools.{clash, true-and, or-false, false-or, not-both}
 use Rattle.meaning.specs.Register.{Source, registerTag, registerLayout, yearOf, isYear, sourceCount, mostSources, lineCount, mostLines, nameBytes, mostNameBytes, sourcesAt, linesAt, namesAt, wholeLength, headerTests, sourceAt, sourcesOf, lineStart, nameStart, misplaced, unsound, wrongSource, sourceTest, restTest, repeats, repeatTest, registerTests}
 use Rattle.meaning.proofs.Registers.{right-register}
 use Rattle.meaning.proofs.Sources.{placed as standing, noSource, sourceNumber, repeats-some, some-repeats}
@@ -56,24 +55,6 @@ repeated-not ss d =
     passed-at-all 4 (repeats ns) (length ns) .1
     (λ i l. not-both (repeats ns i) (λ t. let r = repeats-some ns i l t in
     distinct-lt sourceNumber noSource ss d i (r .0) (r .1) (omega arith) (sym (List·getD-map sourceNumber ss (r .0) noSource) ∙ r .2 ∙ List·getD-map sourceNumber ss i noSource)))
-
--- what is asked of a source itself, where nothing is wrong with it
-pub record Sound (s : Source) : Type 0 where
-  pub number : 0 < s .number
-  pub pair : listed (s .method) (s .parameter) ≡ true
-  pub name : (1 ≤ length (s .name)) × (length (s .name) ≤ 64)
-
-pub sound-parts : (s : Source) → unsound s ≡ false → Sound s
-unfolding unsound
-sound-parts s e =
-    let c1 = or-false _ _ e in
-    let c2 = or-false _ _ (c1 .0) in
-    let c3 = or-false _ _ (c2 .0) in
-    let c4 = or-false _ _ (c3 .0) in
-    let z : s .number ≡ 0 → ⊥ = eqb-false (s .number) 0 (c4 .0) in
-    let n : 0 < s .number = omega arith in
-    let w = and-true _ _ (not-false _ (c2 .1)) in
-    record { number = n; pair = not-false _ (c4 .1); name = (leb-true 1 (length (s .name)) (w .0), leb-true (length (s .name)) 64 (w .1)) }
 
 -- what passing 1 to 4 says
 pub record Passed (b : List ℕ) : Type 0 where

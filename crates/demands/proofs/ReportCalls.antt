@@ -12,7 +12,7 @@ use Rattle.basis.specs.declared.Verdict.{Verdict}
 use Rattle.basis.specs.declared.Verdict.the-variants.{Passes}
 use Rattle.basis.specs.Bytes.{Bytes}
 use Rattle.basis.specs.Lists.{Each, any, without}
-use Rattle.basis.proofs.Lists.{_&_}
+use Rattle.basis.proofs.Lists.{_&_, each-map, without-none}
 use Rattle.basis.specs.Answers.{firstRefusal}
 use Rattle.basis.proofs.Bools.{clash, not-both}
 use Rattle.basis.proofs.Answers.{each-passes}
@@ -136,9 +136,7 @@ without-≤ x (e ∷ es) = by (numbered x e) (without-≤ x es)
     by false l = omega arith
 
 pub without-absent : (x : ℕ) (es : List Entry) → Each (λ e. x ≢ entryNumber e) es → without (numbered x) es ≡ es
-unfolding without
-without-absent x [] p = refl
-without-absent x (e ∷ es) p = rw (ne-eqb (entryNumber e) x (λ q. p .0 (sym q)), without-absent x es (p .1))
+without-absent x es p = without-none (numbered x) es (each-map (λ e q. ne-eqb (entryNumber e) x (λ r. q (sym r))) es p)
 
 pub without-one : (x : ℕ) (es : List Entry) → Distinct entryNumber es → any (numbered x) es ≡ true → suc (length (without (numbered x) es)) ≡ length es
 unfolding without any

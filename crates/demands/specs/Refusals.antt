@@ -4,7 +4,7 @@ use mathlib.Core.Logic.{_⊎_, _≢_}
 use mathlib.Core.Path.{_≡_}
 use Prim.Native.Nat.{ℕ, _+_, _*_, _-_, _≤_, _<_, _^_}
 use lib.ListN.{length, take}
-use Rattle.basis.specs.Bytes.{numberAt, Bytes}
+use Rattle.basis.specs.Bytes.{numberAt}
 use Rattle.meaning.specs.declared.RawLine.{RawLine}
 use Rattle.meaning.specs.Report.{Entry, entriesOf}
 use Rattle.meaning.specs.Text.{reportText}

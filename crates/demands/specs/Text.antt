@@ -2,7 +2,7 @@
 -- plain decimals." Assumes nothing.
 use mathlib.Core.List.{List, [], _∷_, _++_, map}
 use mathlib.Core.Path.{_≡_}
-use Prim.Native.Nat.{ℕ, _+_, _*_, _-_, _≤_, _<_}
+use Prim.Native.Nat.{ℕ, _+_, _*_, _-_, _≤_}
 use lib.ListN.{length, getD}
 use Rattle.basis.specs.Bytes.{Bytes, splice}
 use Rattle.basis.specs.Lists.{Each, sum}

@@ -14,8 +14,13 @@ use lib.Dec.{eqb}
 use lib.ListN.{length, take, drop, getD, set, length-append, length-set, drop-of-length-le}
 use lib.Seq.{set-split, drop-cons, drop-drop, getD-drop}
 use Rattle.basis.specs.Bytes.{bytesOf, numberOf, numberAt, splice, startsWith, Written}
+use Rattle.basis.proofs.Rows.{numberAt-drop}
 use Rattle.basis.proofs.Bytes.{length-bytesOf, splice-none, splice-splice, length-written}
 use Rattle.fields.specs.Fields.{Field}
+
+-- a field behind a place is one of what stands from there on
+pub field-behind : {k n : ℕ} {bs : List ℕ} (p at : ℕ) → Field k bs (p + at) n → Field k (drop p bs) at n
+field-behind {k} {bs = bs} p at f = record { is = f .is ∙ sym (numberAt-drop k bs p at); small = f .small }
 
 -- n is the number of the bytes from the i-th up to the k-th at a place
 pub record Read (bs : List ℕ) (at k i n : ℕ) : Type 0 where

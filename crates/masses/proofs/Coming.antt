@@ -11,6 +11,7 @@ use Rattle.meaning.specs.Report.{figureCount}
 use Rattle.basis.specs.Lists.{countUp}
 use Rattle.meaning.specs.declared.Decoded.{Decoded}
 use Rattle.meaning.specs.Masses.{gasCount, added, taken, belowZero, mass, masses, equivalent}
+use Rattle.meaning.specs.Calls.{faultOf}
 use Rattle.meaning.proofs.Masses.{only-co2}
 use Rattle.exact.specs.Amounts.{value, scale, nothing}
 use Rattle.exact.proofs.Amounts.{room-less}
@@ -20,7 +21,7 @@ use Rattle.masses.specs.declared.Judged.{Judged}
 use Rattle.masses.specs.declared.Read.{Read}
 use Rattle.masses.specs.Sums.{Roomy}
 use Rattle.masses.specs.Lines.{readFrom, Holds, Reads}
-use Rattle.masses.specs.Judged.{netGrams, netMasses, JudgedBy, faultOf, Comes}
+use Rattle.masses.specs.Judged.{netGrams, netMasses, JudgedBy, Comes}
 
 module _ (ls : List Decoded) (s : Sums) (h : Holds ls s) where
   net-mass : (gas : ℕ) → gas < gasCount → netGrams s gas ≡ mass ls gas

@@ -6,10 +6,10 @@ use Prim.Native.Nat.{ℕ, zero, suc, _-_, _≤_, _<_}
 use lib.Dec.{ltb}
 use lib.ListN.{length, getD}
 use Rattle.basis.specs.Lists.{countUp}
-use Rattle.meaning.specs.declared.Decoded.{Decoded}
 use Rattle.meaning.specs.Methods.{isBad}
-use Rattle.meaning.specs.Masses.{gasCount, belowZero, rounded, masses, equivalent, limit}
+use Rattle.meaning.specs.Masses.{gasCount, rounded, masses, equivalent, limit}
 use Rattle.meaning.specs.Report.{figureCount}
+use Rattle.meaning.specs.Calls.{faultOf}
 use Rattle.exact.specs.declared.Amount.{Amount}
 use Rattle.exact.specs.Amounts.{gram, value, nothing, Room}
 use Rattle.masses.specs.declared.Sums.{Sums}
@@ -48,10 +48,6 @@ pub record JudgedBy (s : Sums) (r : Judged) : Type 0 where
   pub size : length (r .figures) ≡ figureCount
   pub fault : r .fault ≡ cond (ltb (value (getD (s .added) 0 nothing)) (value (s .taken))) 6 (cond (ltb limit (equivalent (netMasses s))) 7 0)
   pub figures : r .fault ≡ 0 → r .figures ≡ netMasses s ++ (equivalent (netMasses s) ∷ [])
-
--- what a source is refused for, by its lines: 6, 7, or 0
-unfoldable pub faultOf : List Decoded → ℕ
-faultOf ls = cond (belowZero ls) 6 (cond (ltb limit (equivalent (masses ls))) 7 0)
 
 -- a source's lines are good up to an index; where that is all of them, its fault and its figures are those of its lines
 pub record Comes (b : List ℕ) (m p first end : ℕ) (r : Source) : Type 0 where

@@ -1,17 +1,20 @@
--- The sources of a register: where an entry stands, its number by index, and the numbers that stand twice. Assumes nothing.
+-- The sources of a register: where an entry stands, its number by index, the numbers that stand twice, and what a source that nothing refuses keeps. Assumes nothing.
 use mathlib.Core.List.{List, [], map}
-use mathlib.Core.Bool.{true, false}
-use mathlib.Core.Path.{_≡_, sym, ap, _∙_}
+use mathlib.Core.Bool.{Bool, true, false, cond}
+use mathlib.Core.Path.{_≡_, refl, sym, ap, _∙_}
 use Prim.Native.Nat.{ℕ, _+_, _≤_, _<_}
 use native.Mathlib.Omega.{arith}
-use lib.Dec.{eqb}
+use lib.Dec.{eqb, ltb}
 use lib.ListN.{length, getD, take, length-map, List·getD-map, length-take}
 use lib.Seq.{getD-take}
-use borrow.Author.Tests.{ltb-false, eqb-true, eq-eqb, not-false}
+use borrow.Author.Tests.{ltb-false, leb-true, eqb-true, eqb-false, eq-eqb, not-false}
 use Rattle.basis.specs.Lists.{stands}
-use Rattle.basis.proofs.Bools.{or-false}
+use Rattle.basis.proofs.Bools.{and-true, or-false}
 use Rattle.basis.proofs.Counting.{length-counted, at-counted, any-some, some-any}
-use Rattle.meaning.specs.Register.{Source, sourceCount, lineCount, nameBytes, sourceEntry, numberIn, lineCountIn, firstLineIn, nameLengthIn, nameOffsetIn, sourceAt, sourcesOf, lineStart, nameStart, misplaced, repeats}
+use Rattle.meaning.specs.Methods.{listed}
+use Rattle.meaning.specs.Masses.{belowZero, masses, equivalent, limit}
+use Rattle.meaning.specs.Register.{Source, sourceCount, lineCount, nameBytes, sourceEntry, numberIn, lineCountIn, firstLineIn, nameLengthIn, nameOffsetIn, sourceAt, sourcesOf, lineStart, nameStart, misplaced, unsound, repeats, decodedLines}
+use Rattle.meaning.specs.Calls.{faultOf, massFault}
 
 -- an entry that stands where the one before it ended, with its lines and its name within the register's
 pub record Placed (b : List ℕ) (i : ℕ) : Type 0 where
@@ -71,3 +74,31 @@ unfolding repeats stands
 some-repeats ns i j l m e =
     let q : j < length (take i ns) = rw length-take (omega arith) in
     some-any (λ m. eqb m (getD ns i 0)) 0 (take i ns) j q (eq-eqb _ _ (getD-take i ns j 0 m ∙ e))
+
+-- what is asked of a source itself, where nothing is wrong with it
+pub record Sound (s : Source) : Type 0 where
+  pub number : 0 < s .number
+  pub pair : listed (s .method) (s .parameter) ≡ true
+  pub name : (1 ≤ length (s .name)) × (length (s .name) ≤ 64)
+
+pub sound-parts : (s : Source) → unsound s ≡ false → Sound s
+unfolding unsound
+sound-parts s e =
+    let c1 = or-false _ _ e in
+    let c2 = or-false _ _ (c1 .0) in
+    let c3 = or-false _ _ (c2 .0) in
+    let c4 = or-false _ _ (c3 .0) in
+    let z : s .number ≡ 0 → ⊥ = eqb-false (s .number) 0 (c4 .0) in
+    let n : 0 < s .number = omega arith in
+    let w = and-true _ _ (not-false _ (c2 .1)) in
+    record { number = n; pair = not-false _ (c4 .1); name = (leb-true 1 (length (s .name)) (w .0), leb-true (length (s .name)) 64 (w .1)) }
+
+-- where nothing refuses a source, its equivalent keeps the limit
+pub kept-within : (s : Source) → massFault s ≡ 0 → equivalent (masses (decodedLines s)) ≤ limit
+unfolding faultOf
+kept-within s e = by (belowZero (decodedLines s)) (ltb limit (equivalent (masses (decodedLines s)))) refl e
+  where
+    by : (c d : Bool) → ltb limit (equivalent (masses (decodedLines s))) ≡ d → _≡_ {A = ℕ} (cond c 6 (cond d 7 0)) 0 → equivalent (masses (decodedLines s)) ≤ limit
+    by true d q h = absurd (omega arith)
+    by false true q h = absurd (omega arith)
+    by false false q h = ltb-false _ _ q

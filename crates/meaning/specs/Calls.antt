@@ -37,10 +37,11 @@ lineTest ss =
     refuseAtFirst 5 (badLine ls) (length ls)
 
 -- what a source is refused for: "6 | CO2 sum below zero"; "7 | equivalent above 10^15"; 0 where it is not
-unfoldable pub massFault : Source → ℕ
-massFault s =
-    let ls = decodedLines s in
-    cond (belowZero ls) 6 (cond (ltb limit (equivalent (masses ls))) 7 0)
+unfoldable pub faultOf : List Decoded → ℕ
+faultOf ls = cond (belowZero ls) 6 (cond (ltb limit (equivalent (masses ls))) 7 0)
+
+abbrev pub massFault : Source → ℕ
+massFault s = faultOf (decodedLines s)
 
 -- "then 6 and 7 source by source in table order", place the "source index"
 unfoldable pub faultAt : List ℕ → ℕ → Bool

@@ -17,6 +17,7 @@ use Rattle.meaning.specs.declared.Part.{Part}
 use Rattle.meaning.specs.declared.Found.{Found}
 use Rattle.meaning.specs.Register.{sourceCount, sourceEntry, namePlace, sourceAt, misplaced, unsound, wrongSource, registerTests}
 use Rattle.meaning.specs.Calls.{accepted, hasNumber, indexOf, holds, nameAt, found, inRegister, foundOfTwo}
+use Rattle.meaning.proofs.Registers.{right-register}
 use Rattle.meaning.proofs.Sources.{Placed, placed}
 use Rattle.registers.specs.declared.Sought.{Sought}
 use Rattle.registers.specs.Layout.{Headed}
@@ -24,7 +25,7 @@ use Rattle.registers.specs.Keys.{Tested}
 use Rattle.registers.specs.Lookups.{Seeks}
 use Rattle.registers.proofs.sources.Entries.{has-entry}
 use Rattle.basis.proofs.Scans.{Scanning, scan-none, scan-found, scan-more, scan-all}
-use Rattle.registers.proofs.Tested.{passed-headed, passed-right}
+use Rattle.registers.proofs.Tested.{passed-headed}
 
 pub accepted-is : {b keys left : List ℕ} {v : Verdict} {ok : Bool} → Tested b keys v left → ok ≡ passes v → ok ≡ accepted b
 unfolding accepted
@@ -48,7 +49,7 @@ module _ (b : List ℕ) (e : accepted b ≡ true) where
 
   accepted-placed : (i : ℕ) → i < sourceCount b → Placed b i
   unfolding wrongSource
-  accepted-placed i l = placed b i (or-false (misplaced b i) (unsound (sourceAt b i)) (passed-right b accepted-passes i l) .0)
+  accepted-placed i l = placed b i (or-false (misplaced b i) (unsound (sourceAt b i)) (right-register b accepted-passes .each i l) .0)
 
 pub accepted-by : {ok : Bool} (b : List ℕ) → ok ≡ accepted b → ok ≡ true → accepted b ≡ true
 accepted-by b e f = sym e ∙ f

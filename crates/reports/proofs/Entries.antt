@@ -17,6 +17,7 @@ use Rattle.meaning.specs.Masses.{gasCount, equivalent, limit}
 use Rattle.meaning.specs.Report.{figureCount, figure, entriesAt, entryLength, entryAt, figureIn, entryIn, numberBefore, wrongEntry}
 use Rattle.meaning.proofs.Reports.{RightEntry, length-masses, figure-bounded, figure-read}
 use Rattle.fields.specs.Fields.{Field}
+use Rattle.fields.proofs.Laws.{field-behind}
 use Rattle.exact.specs.declared.Weighed.{Weighed}
 use Rattle.exact.specs.declared.Weighed.the-variants.{Within, Above}
 use Rattle.exact.specs.Equivalents.{withinLimit}
@@ -39,9 +40,6 @@ pub masses-read : (b : List ℕ) (at : ℕ) {ms : List ℕ} → ms ≡ figuresAt
 unfolding figuresAt entryIn
 masses-read b at e = e ∙ figures-drop gasCount b at 8
 
-field-drop : {k : ℕ} {b : List ℕ} (at p : ℕ) {n : ℕ} → Field k b (at + p) n → n ≡ numberAt k (drop at b) p
-field-drop {k} {b} at p f = f .is ∙ sym (numberAt-drop k b at p)
-
 module _ (b : List ℕ) (at : ℕ) {ms : List ℕ} {w : Weighed} (m : ms ≡ entryIn (drop at b) .masses) (v : w ≡ withinLimit ms) where
   -- above the limit it is wrong, whatever is stated
   pub wrong-above : w ≡ Above → true ≡ wrongEquivalent (drop at b)
@@ -55,7 +53,7 @@ module _ (b : List ℕ) (at : ℕ) {ms : List ℕ} {w : Weighed} (m : ms ≡ ent
   unfolding wrongEquivalent
   wrong-stated {right} {stated} e f =
       let h = within-exactly ms right .0 (sym v ∙ e) in
-      let s : stated ≡ figureIn (drop at b) gasCount = field-drop at (8 + 8 * gasCount) (rw add-assoc at f) in
+      let s : stated ≡ figureIn (drop at b) gasCount = field-behind at (8 + 8 * gasCount) (rw add-assoc at f) .is in
       rw (← m, ← s, ← h .1, le-ltb limit right (omega (arith, h .0, h .1))) (sym (or-none (not (eqb stated right))))
 
 or-assoc : (a b c : Bool) → (a || b) || c ≡ a || (b || c)
@@ -71,9 +69,9 @@ unfolding wrongEntry wrongEquivalent entryIn
 entry-judged b i {before} {number} {method} {zeros} e n m z u =
     let r = entryAt b i in
     let at = entriesAt + entryLength * i in
-    let p : numberAt 4 r 0 ≡ number = sym (field-drop at 0 (rw (add-zero at) n)) in
-    let q : numberAt 1 r 4 ≡ method = sym (field-drop at 4 m) in
-    let s : numberAt 3 r 5 ≡ zeros = sym (field-drop at 5 z) in
+    let p : numberAt 4 r 0 ≡ number = sym (field-behind at 0 (rw (add-zero at) n) .is) in
+    let q : numberAt 1 r 4 ≡ method = sym (field-behind at 4 m .is) in
+    let s : numberAt 3 r 5 ≡ zeros = sym (field-behind at 5 z .is) in
     rw (u, p, q, s, ← e)
     (sym (or-assoc (leb number before || not (within 1 6 method) || not (eqb zeros 0)) (not (eqb (figureIn r gasCount) (equivalent (entryIn r .masses)))) (ltb limit (equivalent (entryIn r .masses)))))
 

@@ -13,7 +13,7 @@ use Rattle.basis.specs.Bytes.{ascii, splice, Written}
 use Rattle.basis.proofs.Bytes.{written-then, length-written}
 use Rattle.meaning.specs.Text.{decimal, textLine, refusedLine}
 use Rattle.fields.proofs.Laws.{Writing, writing-none, writing-then, writing-last}
-use Rattle.texts.specs.Digits.{spelled, Counted, field, Put, Fronted}
+use Rattle.texts.specs.Digits.{spelled, Counted, field, acceptedLine, Put, Fronted}
 use Rattle.texts.proofs.Digits.{length-spelled, decimal-few}
 
 -- a byte that is stored is written
@@ -86,6 +86,32 @@ module _ {bs₀ : List ℕ} {at : ℕ} {ns bs : List ℕ} {p k : ℕ} (l : Linin
 
 pub ruleset lining = (needs, lining-none, lining-room, lining-more, lining-room-last, lining-all)
 
+-- what is written to the front, and as long as it says
+fronted : {xs ys zs : List ℕ} {r : ℕ} → Written xs 0 ys zs → r ≡ length ys → Fronted xs ys zs r
+fronted {zs = zs} {r = r} w c =
+    let l : r ≤ length zs = omega (arith, w .fits, length-written w) in
+    record { written = w; count = c; within = l; part = sym (length-take-le r zs l) }
+
+-- a number alone with the byte behind it
+pub alone-room : (n : ℕ) (xs : List ℕ) → Fits w64 n → length xs ≡ 21 → 0 + (length (decimal n) + 1) ≤ length xs
+alone-room n xs p e = omega (arith, decimal-few n p)
+
+pub alone-put : (n after : ℕ) {xs ys : List ℕ} {r : ℕ} → Put xs 0 (field n after) ys r → Fronted xs (field n after) ys r
+alone-put n after g = fronted (g .written) (omega (arith, g .ends))
+
+pub ruleset alone = (needs, alone-room, alone-put)
+
+-- the line of an acceptance: its word, its length
+module _ (n : ℕ) {xs ys : List ℕ} (p : Fits w64 n) (e : length xs ≡ 30) (w : Written xs 0 (ascii "accepted ") ys) where
+  pub accepted-room : 9 + (length (decimal n) + 1) ≤ length ys
+  accepted-room = omega (arith, decimal-few n p, length-written w)
+
+  pub accepted-put : {zs : List ℕ} {r : ℕ} → Put ys 9 (field n 10) zs r → Fronted xs (acceptedLine n) zs r
+  unfolding acceptedLine
+  accepted-put g = fronted (written-then w (g .written) refl) (omega (arith, g .ends))
+
+pub ruleset accepting = (needs, accepted-room, accepted-put)
+
 -- the line of a refusal: its word, its number, its place
 module _ (number place : ℕ) {xs ys : List ℕ} (n : Fits w32 number) (p : Fits w64 place) (e : length xs ≡ 50) (w : Written xs 0 (ascii "refused ") ys) where
   number-fits : Fits w64 number
@@ -108,7 +134,6 @@ module _ (number place : ℕ) {xs ys : List ℕ} (n : Fits w32 number) (p : Fits
         let v : Written xs 0 (refusedLine number place) us = rw refusal-parts at (written-then w (written-then (f .written) (g .written) (f .ends)) refl) in
         let c : r ≡ length (refusedLine number place) =
         omega (arith, f .ends, g .ends, ap length refusal-parts, length-append (field number 32) (field place 10)) in
-        let l : r ≤ length us = omega (arith, v .fits, length-written v) in
-        record { written = v; count = c; within = l; part = sym (length-take-le r us l) }
+        fronted v c
 
 pub ruleset refusing = (needs, number-room, place-room, refusal-put)

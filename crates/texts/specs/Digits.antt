@@ -3,7 +3,7 @@ use mathlib.Core.List.{List, [], _∷_, _++_}
 use mathlib.Core.Path.{_≡_}
 use Prim.Native.Nat.{ℕ, zero, suc, _+_, _/_, _%_, _≤_}
 use lib.ListN.{length, take}
-use Rattle.basis.specs.Bytes.{Written}
+use Rattle.basis.specs.Bytes.{ascii, Written}
 use Rattle.meaning.specs.Text.{digit, decimal}
 
 -- the last k digits of n, highest first, as bytes
@@ -20,6 +20,10 @@ pub record Counted (n k : ℕ) : Type 0 where
 -- a number, and the byte behind it
 unfoldable pub field : ℕ → ℕ → List ℕ
 field n after = decimal n ++ (after ∷ [])
+
+-- the line of an acceptance
+unfoldable pub acceptedLine : ℕ → List ℕ
+acceptedLine n = ascii "accepted " ++ field n 10
 
 -- ys is written over xs at a place, and ends where the next begins
 pub record Put (xs : List ℕ) (at : ℕ) (ys zs : List ℕ) (end : ℕ) : Type 0 where

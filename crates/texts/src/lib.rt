@@ -11,7 +11,7 @@ ghost use Rattle.meaning.specs.Calls.{text as Calls·text};
 ghost use Rattle.reports.specs.Figures.{figuresAt};
 ghost use Rattle.reports.specs.Stated.{Readable};
 ghost use Rattle.texts.specs.Rows.{Measured, numbersOf, headNumbers, entryNumbers, entryLine, entryLines, textOf};
-ghost use Rattle.texts.specs.Digits.{Counted, Put, Fronted, spelled, field};
+ghost use Rattle.texts.specs.Digits.{Counted, Put, Fronted, spelled, field, acceptedLine};
 use basis::Answer;
 use reports::ENTRIES_AT;
 use reports::ENTRY_LENGTH;
@@ -218,6 +218,21 @@ pub fn text(report: &[u8], buffer: &mut [u8]) -> Answer
         place: 1,
         length: 0,
     }
+}
+
+// A number and the byte behind it, at the front of an array in which twenty digits fit. Answers how many bytes they are.
+pub fn number_field(n: u64, after: u8, line: &mut [u8; 21]) -> usize
+    ensures { λ r. ⌜ Fronted (now (line .entry)) (field n after) (now (line .exit)) r ⌝ }
+{
+    put_field(line, 0, n, after)
+}
+
+// The line of an acceptance, the word `accepted` and the length. Answers how long the line is.
+pub fn accepted_line(accepted: u64, line: &mut [u8; 30]) -> usize
+    ensures { λ r. ⌜ Fronted (now (line .entry)) (acceptedLine accepted) (now (line .exit)) r ⌝ }
+{
+    fields::put_bytes(line, 0, b"accepted ");
+    put_field(line, 9, accepted, b'\n')
 }
 
 // "A refusal is the line `refused`, number, place": two numbers of at most twenty digits always fit. Answers how long the line is.

@@ -2,7 +2,7 @@
 use mathlib.Core.Bool.{Bool, true, false, not, _||_}
 use mathlib.Core.List.{List}
 use mathlib.Core.Path.{_≡_, refl, sym, _∙_}
-use Prim.Native.Nat.{ℕ, _+_, _*_, _≤_, _<_}
+use Prim.Native.Nat.{ℕ, _+_, _≤_, _<_}
 use native.Mathlib.Numerals.{add-one}
 use native.Mathlib.Omega.{arith}
 use borrow.Author.Needs.{needs}
@@ -12,19 +12,16 @@ use lib.Seq.{drop-cons, length-take-le}
 use Rattle.basis.specs.Lists.{any}
 use Rattle.basis.specs.Answers.{Shows}
 use Rattle.basis.proofs.Lists.{length-countUp}
-use Rattle.basis.proofs.Rows.{numberAt-drop}
 use Rattle.fields.specs.Fields.{Field}
+use Rattle.fields.proofs.Laws.{field-behind}
 use Rattle.meaning.specs.Methods.{listed, within}
-use Rattle.meaning.specs.Register.{sourcesAt, sourceCount, sourceLength, sourceEntry, nameLengthIn, namePlace, sourceAt, lineStart, nameStart, misplaced, badNameByte, unsound, wrongSource}
+use Rattle.meaning.specs.Register.{sourceCount, sourceEntry, nameLengthIn, namePlace, sourceAt, lineStart, nameStart, misplaced, badNameByte, unsound, wrongSource}
 use Rattle.meaning.proofs.Sources.{placed}
 use Rattle.registers.specs.Layout.{Headed, HasEntry, HasName, Begins}
 
 -- of n sources, each below n has its entry
 pub has-entry : {b : List ℕ} {n i : ℕ} → Headed b → n ≡ sourceCount b → i < n → HasEntry b i
 has-entry h e l = record { head = h; below = omega arith }
-
-pub field-in : {k n : ℕ} {b : List ℕ} (i at : ℕ) → Field k b (sourcesAt + sourceLength * i + at) n → Field k (sourceEntry b i) at n
-field-in {k} {b = b} i at f = record { is = f .is ∙ sym (numberAt-drop k b (sourcesAt + sourceLength * i) at); small = f .small }
 
 module _ (b : List ℕ) (i : ℕ) where
   pub line-end : {first count : ℕ} → Field 2 (sourceEntry b i) 8 first → Field 2 (sourceEntry b i) 6 count → first + count ≡ lineStart b (i + 1)
@@ -104,4 +101,4 @@ module _ (b : List ℕ) (i : ℕ) {place : Bool} (p : place ≡ misplaced b i) w
     wrong-named e f = rw (← p, q, ← s, e) f
 
 pub ruleset entries =
-    (needs, field-in, line-end, name-end, misplaced-is, has-name, misstated-is, name-is, look-none, look-bad, look-more, look-all, wrong-misplaced, wrong-misstated, wrong-named)
+    (needs, field-behind, line-end, name-end, misplaced-is, has-name, misstated-is, name-is, look-none, look-bad, look-more, look-all, wrong-misplaced, wrong-misstated, wrong-named)

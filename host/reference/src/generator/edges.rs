@@ -23,20 +23,19 @@ fn odd(random: &mut Random, most: u64) -> u64 {
 /// Fuel of an exact half of a gram in one line or in two, or a millionth of its content less: Q A is an odd multiple
 /// of 31,250.
 fn half_of_co2(random: &mut Random) -> DraftSource {
-    let content = 15_625 * odd(random, 31) as u32;
-    let quantity = odd(random, 999_999);
-    let fuel = |content| line(1, 1, 3, content, 10_000, quantity);
-    let lines = [fuel(content), fuel(content - random.below(2) as u32)];
-    source(1, 1, 0, &lines)
+    half_in_two(random, 1, 15_625, 31, |content, quantity| line(1, 1, 3, content, 10_000, quantity))
 }
 
 /// Methane likewise: Q A is an odd multiple of 500.
 fn half_of_ch4(random: &mut Random) -> DraftSource {
-    let content = 250 * odd(random, 3_999) as u32;
+    half_in_two(random, 2, 250, 3_999, |content, quantity| line(2, 1, 0, content, 10_000, quantity))
+}
+
+fn half_in_two(random: &mut Random, method: u8, step: u32, most: u64, part: fn(u32, u64) -> Line) -> DraftSource {
+    let content = step * odd(random, most) as u32;
     let quantity = odd(random, 999_999);
-    let gas = |content| line(2, 1, 0, content, 10_000, quantity);
-    let lines = [gas(content), gas(content - random.below(2) as u32)];
-    source(1, 2, 0, &lines)
+    let lines = [part(content, quantity), part(content - random.below(2) as u32, quantity)];
+    source(1, method, 0, &lines)
 }
 
 /// Nitric acid of 2.5 or 7.5 g for each odd kilogram, or 0.5 g for each odd tonne, whole or in two lines.
