@@ -1,13 +1,14 @@
 -- The laws of sums, of counting up and of order by a key. Assumes nothing.
 use mathlib.Core.Bool.{Bool, true, false, cond}
 use mathlib.Core.List.{List, [], _∷_, _++_, map, map-append, List·Permᴰ, List·Permᴰ·nil, List·Permᴰ·cons, List·Permᴰ·swap, List·Permᴰ·trans, Permᴰ·refl}
-use mathlib.Core.Path.{_≡_, refl, ap, ap₂, _∙_}
-use Prim.Native.Nat.{ℕ, zero, suc, _+_, _<_, zero-le, suc-le-suc}
+use mathlib.Core.Path.{_≡_, refl, sym, ap, ap₂, _∙_}
+use Prim.Native.Nat.{ℕ, zero, suc, _+_, _≤_, _<_, zero-le, suc-le-suc}
 use native.Mathlib.Nat.{add-assoc, zero-add, not-suc-le-zero, le-of-suc-le-suc}
 use native.Mathlib.Omega.{arith}
 use lib.Dec.{leb}
 use borrow.Author.Tests.{le-leb, lt-leb, leb-true, leb-false}
-use lib.ListN.{length, getD}
+use lib.ListN.{length, take, getD}
+use lib.Seq.{length-take-le}
 use Rattle.basis.specs.Lists.{Each, sum, countUp, insertBy, sortedBy, without}
 
 -- what is said of each of a list, one by one
@@ -151,3 +152,7 @@ pub without-none : {A : Type 0} (test : A → Bool) (xs : List A) → Each (λ x
 unfolding without
 without-none test [] p = refl
 without-none test (x ∷ xs) p = rw (p .0, without-none test xs (p .1))
+
+-- a front of a list is as long as it is asked to be
+pub counted : (n : ℕ) (xs : List ℕ) → n ≤ length xs → n ≡ length (take n xs)
+counted n xs l = sym (length-take-le n xs l)

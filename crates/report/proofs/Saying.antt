@@ -7,25 +7,23 @@ use borrow.Author.Needs.{needs}
 use borrow.Author.Tests.{ltb-false, ne-eqb}
 use lib.Dec.{ltb}
 use lib.ListN.{length, take, drop, replicate}
-use lib.Seq.{take-at, length-take-le}
+use lib.Seq.{take-at}
 use Rattle.basis.specs.declared.Answer.{Answer}
 use Rattle.basis.specs.declared.Verdict.{Verdict}
 use Rattle.basis.specs.declared.Verdict.the-variants.{Passes, Refuses}
 use Rattle.basis.specs.Answers.{firstRefusal, settled, Gives}
 use Rattle.basis.specs.Bytes.{splice, Written}
 use Rattle.basis.proofs.Answers.{each-passes, passed-append, passed-if}
-use Rattle.basis.proofs.Bytes.{splice-none, length-written}
+use Rattle.basis.proofs.Lists.{counted}
+use Rattle.basis.proofs.Bytes.{splice-none}
 use Rattle.meaning.specs.Text.{refusedLine}
 use Rattle.meaning.specs.Calls.{roomTest, written, formTest, text, calculationTests, calculatedReport, calculated}
 use Rattle.texts.specs.Digits.{Fronted}
 use Rattle.texts.specs.Rows.{textOf}
+use Rattle.texts.proofs.Lines.{fronted}
 use Rattle.report.specs.declared.Input.{Input}
 use Rattle.report.specs.declared.Input.the-variants.{Came}
 use Rattle.report.specs.Output.{Within, said, textOutput, output}
-
--- a part of a list is as long as it is asked to be
-pub counted : (n : ℕ) (xs : List ℕ) → n ≤ length xs → n ≡ length (take n xs)
-counted n xs l = sym (length-take-le n xs l)
 
 -- how much came
 module _ {input : Input} {room : List ℕ} {n : ℕ} (w : Within input room) (e : input ≡ Came n) where
@@ -40,15 +38,9 @@ came-all n room l = record { within = l; part = counted n room l }
 
 pub ruleset coming = (needs, came-within, came-part)
 
-module _ {xs ys zs : List ℕ} {n : ℕ} (w : Written xs 0 ys zs) (e : n ≡ length ys) where
-  front-is : take n zs ≡ ys
-  unfolding splice
-  front-is = rw (w .is) (take-at ys (drop (0 + length ys) xs) n (sym e))
-
-  fronted : Fronted xs ys zs n
-  fronted =
-      let l : n ≤ length zs = omega (arith, w .fits, length-written w) in
-      record { written = w; count = e; within = l; part = counted n zs l }
+front-is : {xs ys zs : List ℕ} {n : ℕ} → Written xs 0 ys zs → n ≡ length ys → take n zs ≡ ys
+unfolding splice
+front-is {xs} {ys} {n = n} w e = rw (w .is) (take-at ys (drop (0 + length ys) xs) n (sym e))
 
 -- a line that is copied to the front
 pub line-fronted : {room line ys xs zs : List ℕ} {n : ℕ} → Fronted room ys line n → Written xs 0 (take n line) zs → Fronted xs ys zs n

@@ -8,7 +8,8 @@ use mir.Syntax.{w32, w64}
 use mir.Val.{Fits}
 use borrow.Author.Needs.{needs}
 use lib.ListN.{length, getD, drop, set, length-append, drop-of-length-le}
-use lib.Seq.{set-split, drop-cons, length-take-le}
+use lib.Seq.{set-split, drop-cons}
+use Rattle.basis.proofs.Lists.{counted}
 use Rattle.basis.specs.Bytes.{ascii, splice, Written}
 use Rattle.basis.proofs.Bytes.{written-then, length-written}
 use Rattle.meaning.specs.Text.{decimal, textLine, refusedLine}
@@ -87,10 +88,10 @@ module _ {bs₀ : List ℕ} {at : ℕ} {ns bs : List ℕ} {p k : ℕ} (l : Linin
 pub ruleset lining = (needs, lining-none, lining-room, lining-more, lining-room-last, lining-all)
 
 -- what is written to the front, and as long as it says
-fronted : {xs ys zs : List ℕ} {r : ℕ} → Written xs 0 ys zs → r ≡ length ys → Fronted xs ys zs r
+pub fronted : {xs ys zs : List ℕ} {r : ℕ} → Written xs 0 ys zs → r ≡ length ys → Fronted xs ys zs r
 fronted {zs = zs} {r = r} w c =
     let l : r ≤ length zs = omega (arith, w .fits, length-written w) in
-    record { written = w; count = c; within = l; part = sym (length-take-le r zs l) }
+    record { written = w; count = c; within = l; part = counted r zs l }
 
 -- a number alone with the byte behind it
 pub alone-room : (n : ℕ) (xs : List ℕ) → Fits w64 n → length xs ≡ 21 → 0 + (length (decimal n) + 1) ≤ length xs

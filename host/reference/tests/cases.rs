@@ -1,6 +1,7 @@
 //! The reference gives each chosen call the answer stated for it, and the files made of them hold together.
 
 use std::collections::BTreeSet;
+use std::path::Path;
 
 use reference::bytes::number_at;
 use reference::cases::{calls, chosen, generated, listing, output};
@@ -70,4 +71,14 @@ fn files_are_the_same_each_time_and_small() {
     assert!(calls(&once) == calls(&again) && output(&once) == output(&again) && listing(&once) == listing(&again));
     assert!(output(&once).len() < 1_000_000);
     assert!(calls(&generated(5, 50)) == calls(&generated(5, 50)));
+}
+
+/// The program `cases` reads these calls, and has to write what the reference makes of them.
+#[test]
+fn stored_files_are_those_made() {
+    let crate_folder = Path::new("../../crates/cases");
+    let stored = |name| std::fs::read(crate_folder.join(name)).unwrap();
+    assert!(stored("data/calls") == calls(&chosen()));
+    assert!(stored("stdout") == output(&chosen()));
+    assert!(stored("calls.txt") == listing(&chosen()).into_bytes());
 }

@@ -49,6 +49,12 @@ fn wrong(name: impl Into<String>, report: Vec<u8>) -> Case {
     refused(name, Call::check(&report), 9, 1)
 }
 
+/// Every report here that is not well-formed, with its name.
+pub fn malformed() -> Vec<(String, Vec<u8>)> {
+    let refused = [wrong_headers(), wrong_lengths(), wrong_entries(), wrong_totals()].into_iter().flatten();
+    refused.filter(|case| case.answer[0] == 9).map(|case| (case.name, case.call.first)).collect()
+}
+
 fn well_formed() -> Vec<Case> {
     let every_method = (1..=6).map(|method| with_masses(method.into(), method, 1, 2, 3));
     let largest_report = (1..=512).map(largest).collect();

@@ -1,6 +1,6 @@
 //! Combining: refusals 9 to 12 and 8, and what is written.
 
-use super::check::{entry, largest, of_entries, report};
+use super::check::{self, entry, largest, of_entries, report};
 use super::{accepted, group, refused, report_length, Case, Group, A_LITTLE_ROOM};
 use crate::call::Call;
 use crate::draft::edited;
@@ -9,6 +9,7 @@ pub fn groups() -> Vec<Group> {
     vec![
         group("Combinations: interleaved, all before, all after, with the empty report.", combined()),
         group("9 to 12: each by itself.", wrong()),
+        group("9: each condition of well-formed broken in the first, in the second, in both.", malformed_of_two()),
         group("9 to 12, turn: two of them at once, and little room.", turns()),
         group("Combinations at the largest count.", largest_counts()),
         group("8: the room of a combination.", rooms()),
@@ -75,6 +76,18 @@ fn wrong() -> Vec<Case> {
             7,
         ),
     ]
+}
+
+fn malformed_of_two() -> Vec<Case> {
+    let right = report(&[1, 2]);
+    let each = check::malformed().into_iter().flat_map(|(name, wrong)| {
+        [
+            not_joined(&format!("{name}, first"), &wrong, &right, 9, 1),
+            not_joined(&format!("{name}, second"), &right, &wrong, 9, 2),
+            not_joined(&format!("{name}, both"), &wrong, &wrong, 9, 1),
+        ]
+    });
+    each.collect()
 }
 
 fn turns() -> Vec<Case> {
