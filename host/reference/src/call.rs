@@ -77,7 +77,11 @@ impl Call {
 
     /// What the reference makes of the call.
     pub fn reply(&self) -> Reply {
-        let mut buffer = vec![self.fill; self.room];
+        self.reply_over(vec![self.fill; self.room])
+    }
+
+    /// What it makes of the call where another buffer is lent.
+    pub fn reply_over(&self, mut buffer: Vec<u8>) -> Reply {
         let (first, second) = (&self.first, &self.second);
         let answer = match self.entry {
             Entry::Calculate => numbers(calls::calculate(first, &mut buffer)),

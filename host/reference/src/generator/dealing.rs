@@ -9,6 +9,8 @@ use crate::draft::{register, Draft};
 pub struct Dealing {
     pub whole: Vec<u8>,
     pub parts: Vec<Vec<u8>>,
+    /// The number of a source of the whole, and the register of that source alone; none where the whole has no source.
+    pub alone: Option<(u32, Vec<u8>)>,
     /// Each pair takes two reports out of the list, the second counted after the first is gone, and puts their
     /// combination at its end.
     combinations: Vec<(usize, usize)>,
@@ -23,7 +25,13 @@ pub fn dealing(seed: u64, index: u64) -> Dealing {
         whole: whole.bytes(),
         combinations: combinations.collect(),
         parts: parts.iter().map(Draft::bytes).collect(),
+        alone: alone(&whole, &mut random),
     }
+}
+
+fn alone(whole: &Draft, random: &mut Random) -> Option<(u32, Vec<u8>)> {
+    let source = whole.sources.get(random.index(whole.sources.len().max(1)))?;
+    Some((source.number, register(whole.year, vec![source.clone()]).bytes()))
 }
 
 fn dealt_out(whole: &Draft, random: &mut Random) -> Vec<Draft> {

@@ -47,15 +47,18 @@ pub fn counts(seed: u64, count: u64) -> BTreeMap<String, u64> {
     let mut counts = BTreeMap::new();
     for index in 0..count {
         let call = call(seed, index);
-        let answer = call.reply().answer;
-        let name = match call.entry {
-            Entry::Name | Entry::NameOfTwo if answer.ends_with(&[0]) => "no name".to_string(),
-            Entry::Name | Entry::NameOfTwo => "a name".to_string(),
-            _ => format!("{:>2}", answer[0]),
-        };
-        *counts.entry(name).or_insert(0) += 1;
+        *counts.entry(kind_of_answer(call.entry, &call.reply().answer)).or_insert(0) += 1;
     }
     counts
+}
+
+/// An answer's number; of a lookup whether it found a name.
+pub fn kind_of_answer(entry: Entry, answer: &[u64]) -> String {
+    match entry {
+        Entry::Name | Entry::NameOfTwo if answer.ends_with(&[0]) => "no name".to_string(),
+        Entry::Name | Entry::NameOfTwo => "a name".to_string(),
+        _ => format!("{:>2}", answer[0]),
+    }
 }
 
 /// Gives a call just the room that it needs, or more, or less.

@@ -29,6 +29,13 @@ pub fn valid_of_some(random: &mut Random) -> Draft {
     register(2023, numbers.into_iter().map(|number| valid_source(random, number, &size)).collect())
 }
 
+/// A valid register of so many sources with two lines each, so that every size has the same work for a source.
+pub fn valid_of(random: &mut Random, sources: usize) -> Draft {
+    let size = Size { sources, lines: 2..=2, name_bytes: 12..=12 };
+    let numbers = numbers(random, size.sources);
+    register(2023, numbers.into_iter().map(|number| valid_source(random, number, &size)).collect())
+}
+
 fn size(random: &mut Random) -> Size {
     match random.below(64) {
         0 => Size { sources: 0, lines: 1..=1, name_bytes: 1..=1 },

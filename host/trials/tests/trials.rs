@@ -1,0 +1,86 @@
+//! The trials themselves: what differs is found, the Rust side is right, and a small stack is enough.
+
+use reference::call::{Call, Entry};
+use reference::generator::{registers, Random};
+use trials::compared::generated;
+use trials::demand3::dealings;
+use trials::lent::Around;
+use trials::sides::{proved, rival};
+
+#[test]
+fn the_rust_side_is_right() {
+    generated(rival, 3, 24_000, Around::Guards).expect("the reference's answers");
+    dealings(rival, 3, 240).expect("the whole registers' reports");
+}
+
+/// A side that writes on refusal, one that touches bytes behind the answered length, and one that answers another place.
+#[test]
+fn what_differs_is_found() {
+    let wrong: [trials::sides::Side; 3] = [
+        |entry, first, second, number, buffer| {
+            let answer = proved(entry, first, second, number, buffer);
+            if answer[0] != 0 && !buffer.is_empty() && entry == Entry::Calculate {
+                buffer[0] ^= 1;
+            }
+            answer
+        },
+        |entry, first, second, number, buffer| {
+            let answer = proved(entry, first, second, number, buffer);
+            if let (0, Some(behind)) = (answer[0], buffer.get_mut(answer[2] as usize)) {
+                *behind ^= 1;
+            }
+            answer
+        },
+        |entry, first, second, number, buffer| {
+            let [answer, place, length] = proved(entry, first, second, number, buffer);
+            [answer, place + u64::from(answer == 11), length]
+        },
+    ];
+    for (index, side) in wrong.into_iter().enumerate() {
+        let found = generated(side, 4, 2_400, Around::Guards).expect_err("it differs");
+        assert!(found.contains("seed 4, call "), "side {index}: {found}");
+    }
+    let none_combined: trials::sides::Side = |entry, first, second, number, buffer| match entry {
+        Entry::Combine => [9, 1, 0],
+        _ => proved(entry, first, second, number, buffer),
+    };
+    assert!(dealings(none_combined, 4, 20).is_err());
+}
+
+/// A call of each entry point over as many sources as there may be.
+fn largest_calls() -> Vec<Call> {
+    let mut random = Random::of(5, 0);
+    let draft = registers::valid_of(&mut random, 512);
+    let last = draft.sources[511].number;
+    let mut halves = [draft.clone(), draft.clone()];
+    halves[0].sources.truncate(256);
+    halves[1].sources.drain(..256);
+    let [first, second] = halves.map(|half| Call::calculate(&half.bytes(), 10_296).reply().buffer);
+    let register = draft.bytes();
+    let report = Call::calculate(&register, 20_536).reply().buffer;
+    vec![
+        Call::calculate(&register, 20_536),
+        Call::combine(&first, &second, 20_536),
+        Call::remove(&report, last, 20_496),
+        Call::check(&report),
+        Call::text(&report, 65_536),
+        Call::name(&register, last),
+        Call::name_of_two(&register, &register, last),
+    ]
+}
+
+#[test]
+fn a_stack_of_64_kib_is_enough() {
+    for call in largest_calls() {
+        let expected = call.reply();
+        let thread = std::thread::Builder::new().stack_size(64 * 1024);
+        let made = thread.spawn(move || {
+            let mut buffer = vec![call.fill; call.room];
+            let answer = proved(call.entry, &call.first, &call.second, call.number, &mut buffer);
+            (answer, buffer)
+        });
+        let (answer, buffer) = made.expect("a thread").join().expect("an answer");
+        assert_eq!(answer[..expected.answer.len()], expected.answer);
+        assert!(buffer == expected.buffer);
+    }
+}
