@@ -74,11 +74,10 @@ fn test_header(header: &[u8; 32], lent: usize) -> Result<(), Refusal> {
 
 /// What an entry has to be by itself; a name that runs past the names was handed over empty.
 fn is_sound(source: &SourceEntry, name: &[u8]) -> bool {
-    let [.., _] = name else { return false };
     u32_at(source, 0) != 0
         && is_listed(source[4], source[5])
         && u16_at(source, 6) != 0
-        && name.len() <= 64
+        && (1..=64).contains(&name.len())
         && !has_bad_byte(name)
 }
 
@@ -89,19 +88,20 @@ fn is_listed(method: u8, parameter: u8) -> bool {
     method < 8 && parameter < 8 && LISTED[usize::from(method)] >> parameter & 1 == 1
 }
 
-/// Eight bytes at a time: a byte below 32, or 127, leaves its highest bit set.
+/// Eight bytes at a time, the last eight once more where they do not come out even.
 fn has_bad_byte(name: &[u8]) -> bool {
+    let Some(last) = name.last_chunk::<8>() else {
+        return name.iter().any(|&byte| byte < 32 || byte == 127);
+    };
+    let words = name.as_chunks::<8>().0.iter().chain([last]);
+    words.fold(0, |bad, &word| bad | bad_bytes(u64::from_le_bytes(word))) != 0
+}
+
+/// The highest bit of each byte that is below 32, or 127.
+fn bad_bytes(word: u64) -> u64 {
     const HIGH: u64 = 0x8080_8080_8080_8080;
     const EACH: u64 = 0x0101_0101_0101_0101;
-    let (words, rest) = name.as_chunks::<8>();
-    let bad_in = |word: u64| {
-        let low = word & !HIGH;
-        // 96 more sets the high bit of a byte from 32 up, 1 more that of 127.
-        !(low + 96 * EACH) | (low + EACH)
-    };
-    let bad = words.iter().fold(0, |bad, &word| {
-        let word = u64::from_le_bytes(word);
-        bad | bad_in(word) & !word
-    });
-    bad & HIGH != 0 || rest.iter().any(|&byte| byte < 32 || byte == 127)
+    let low = word & !HIGH;
+    // 96 more sets the high bit of a byte from 32 up, 1 more that of 127.
+    (!(low + 96 * EACH) | (low + EACH)) & !word & HIGH
 }
