@@ -83,6 +83,16 @@ fn valid_reports_are_well_formed_and_faults_are_not() {
     }
 }
 
+/// Also where the first cuts the report to nothing, and the second finds no byte.
+#[test]
+fn a_fault_of_a_report_can_be_made_twice() {
+    for fault in 0..reports::FAULTS.len() {
+        for turn in 0..2_000 {
+            reports::spoilt(&mut Random::of(7, turn), &[fault, fault]);
+        }
+    }
+}
+
 /// The exact sums of every source of the generated registers at an edge, by gas.
 fn sums_at_edges() -> Vec<(Gas, i128)> {
     let mut sums = vec![];

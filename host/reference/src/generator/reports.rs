@@ -48,7 +48,7 @@ pub static FAULTS: [fn(&mut Vec<u8>, usize, &mut Random); 24] = [
     |b, _, r| move_by_one(b, 16, 4, r),
     |b, _, r| put(b, 20, 4, 1 << r.below(32)),
     // the bytes lent, and one entry too many
-    |b, _, r| b.truncate(r.index(b.len())),
+    |b, _, r| b.truncate(r.index(b.len().max(1))),
     |b, _, r| b.extend([&[0], &r.bytes_below(60)[..]].concat()),
     |b, _, r| *b = Report::of(2023, (1..=513).map(|number| entry(r, number)).collect()).bytes(),
     // an entry's number, method and zeros
