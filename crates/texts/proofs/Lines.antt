@@ -103,7 +103,7 @@ alone-put n after g = fronted (g .written) (omega (arith, g .ends))
 pub ruleset alone = (needs, alone-room, alone-put)
 
 -- the line of an acceptance: its word, its length
-module _ (n : ℕ) {xs ys : List ℕ} (p : Fits w64 n) (e : length xs ≡ 30) (w : Written xs 0 (ascii "accepted ") ys) where
+module _ (n : ℕ) {xs ys : List ℕ} (p : Fits w64 n) (e : length xs ≡ 50) (w : Written xs 0 (ascii "accepted ") ys) where
   pub accepted-room : 9 + (length (decimal n) + 1) ≤ length ys
   accepted-room = omega (arith, decimal-few n p, length-written w)
 

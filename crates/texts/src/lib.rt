@@ -1,4 +1,4 @@
-// Document 01, "The report program": the text of a report, and the line of a refusal.
+// Document 01, "The report program": the text of a report, and the lines of a refusal and of an acceptance.
 ghost use mathlib.Core.List.{_∷_};
 ghost use mathlib.Core.Path.{_≡_};
 ghost use Prim.Native.Nat.{_+_, _*_, _≤_, _<_};
@@ -12,10 +12,17 @@ ghost use Rattle.reports.specs.Figures.{figuresAt};
 ghost use Rattle.reports.specs.Stated.{Readable};
 ghost use Rattle.texts.specs.Rows.{Measured, numbersOf, headNumbers, entryNumbers, entryLine, entryLines, textOf};
 ghost use Rattle.texts.specs.Digits.{Counted, Put, Fronted, spelled, field, acceptedLine};
+ghost use Rattle.texts.specs.Saying.{answerLine, textOutput};
 use basis::Answer;
 use reports::ENTRIES_AT;
 use reports::ENTRY_LENGTH;
 use reports::FIGURES;
+
+// Room for the text of the longest report; were it short, a program would say so by 8 and the length needed.
+pub const TEXT_ROOM: usize = 40960;
+
+// "refused" with its space, and two numbers of at most twenty digits, each with the byte behind it.
+pub const LINE_ROOM: usize = 50;
 
 // How many digits a number has. A power of ten is compared with the number's tenth, so that the next power is at most the number.
 fn digit_count(n: u64) -> usize
@@ -227,8 +234,8 @@ pub fn number_field(n: u64, after: u8, line: &mut [u8; 21]) -> usize
     put_field(line, 0, n, after)
 }
 
-// The line of an acceptance, the word `accepted` and the length. Answers how long the line is.
-pub fn accepted_line(accepted: u64, line: &mut [u8; 30]) -> usize
+// The word `accepted` and the length. Answers how long the line is.
+fn accepted_line(accepted: u64, line: &mut [u8; LINE_ROOM]) -> usize
     ensures { λ r. ⌜ Fronted (now (line .entry)) (acceptedLine accepted) (now (line .exit)) r ⌝ }
 {
     fields::put_bytes(line, 0, b"accepted ");
@@ -236,10 +243,47 @@ pub fn accepted_line(accepted: u64, line: &mut [u8; 30]) -> usize
 }
 
 // "A refusal is the line `refused`, number, place": two numbers of at most twenty digits always fit. Answers how long the line is.
-pub fn refused_line(number: u32, place: u64, line: &mut [u8; 50]) -> usize
+fn refused_line(number: u32, place: u64, line: &mut [u8; LINE_ROOM]) -> usize
     ensures { λ r. ⌜ Fronted (now (line .entry)) (refusedLine number place) (now (line .exit)) r ⌝ }
 {
     fields::put_bytes(line, 0, b"refused ");
     let at = put_field(line, 8, number as u64, b' ');
     put_field(line, at, place, b'\n')
+}
+
+// The line of an answer.
+pub fn answer_line(answer: Answer, line: &mut [u8; LINE_ROOM]) -> usize
+    ensures { λ r. ⌜ Fronted (now (line .entry)) (answerLine answer) (now (line .exit)) r ⌝ }
+{
+    let number = answer.number;
+    let place = answer.place;
+    let accepted = answer.length;
+    if number == 0 {
+        return accepted_line(accepted, line);
+    }
+    refused_line(number, place, line)
+}
+
+// The line of a refusal, at the front of a room that holds more than a line.
+pub fn put_refusal(number: u32, place: u64, output: &mut [u8]) -> usize
+    requires { ⌜ 50 ≤ length (now output) ⌝ }
+    ensures { λ r. ⌜ Fronted (now (output .entry)) (refusedLine number place) (now (output .exit)) r ⌝ }
+{
+    let mut line = [0u8; LINE_ROOM];
+    let n = refused_line(number, place, &mut line);
+    fields::put_bytes(output, 0, &line[..n]);
+    n
+}
+
+// The text of a report, or the line of its refusal.
+pub fn put_text_or_refusal(report: &[u8], output: &mut [u8]) -> usize
+    requires { ⌜ 50 ≤ length (now output) ⌝ }
+    ensures { λ r. ⌜ Fronted (now (output .entry)) (textOutput (now (report .entry)) (now (output .entry))) (now (output .exit)) r ⌝ }
+{
+    let answer = text(report, output);
+    let number = answer.number;
+    if number == 0 {
+        return answer.length as usize;
+    }
+    put_refusal(number, answer.place, output)
 }

@@ -3,15 +3,15 @@ use Prim.Native.Nat.{_-_, _≤_}
 use lib.ListN.{length}
 use native.Mathlib.Omega.{arith}
 use borrow.Author.Needs.{needs}
-use Rattle.report.proofs.Saying.{came-within, came-all}
-use Rattle.report.proofs.read_all.Statement.{statement}
-use Rattle.report.proofs.read_all.Tie as tie
+use Rattle.files.proofs.Coming.{came-within, fronting}
+use Rattle.files.proofs.read_all.Statement.{statement}
+use Rattle.files.proofs.read_all.Tie as tie
 
 abbrev Inv-loop : tie.InvT-loop
-Inv-loop register₀ at₀ register at = (at ≤ length register) × (length register ≡ length register₀)
+Inv-loop fd room₀ at₀ room at = (at ≤ length room) × (length room ≡ length room₀)
 
 abbrev μ-loop : tie.MeasureT-loop
-μ-loop register₀ at₀ register at = length register₀ - at
+μ-loop fd room₀ at₀ room at = length room₀ - at
 
 pub read-all-spec : {M : Type 1} → statement M
 read-all-spec =
@@ -29,9 +29,9 @@ read-all-spec =
     (λ c. search needs)
     (λ c. search needs)
     (λ c. search needs)
-    (λ c. came-all _ _ (omega arith))
+    (λ c. fronting _ _ (omega arith))
     (λ c. let l = came-within (c .before .before .before .before .before .before .read-some .ensures) (c .before .before .some .given .1) in record { fits = omega (arith, l) })
     (λ c. let l = came-within (c .before .before .before .before .before .before .read-some .ensures) (c .before .before .some .given .1) in omega (arith, l))
     (λ c. let l = came-within (c .before .before .before .before .before .before .read-some .ensures) (c .before .before .some .given .1) in omega (arith, l))
     (λ c. search needs)
-    (λ c. came-all _ _ (omega arith)))
+    (λ c. fronting _ _ (omega arith)))

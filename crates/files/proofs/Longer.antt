@@ -1,4 +1,4 @@
--- Bytes behind the first 45,089 change nothing of what the program says, since no register has so many. Assumes nothing.
+-- Bytes behind the first 45,089 do not change what calculation answers, since no register has so many. Assumes nothing.
 use mathlib.Core.Bool.{not, _||_}
 use mathlib.Core.List.{List, [], _∷_, _++_}
 use mathlib.Core.Path.{_≡_, refl, sym, ap, _∙_}
@@ -16,10 +16,9 @@ use Rattle.basis.specs.Answers.{Outcome, refuseIf, firstRefusal, Gives}
 use Rattle.basis.proofs.Answers.{each-passes, passed-if, if-passed, refused-then}
 use Rattle.basis.proofs.Bools.{or-true}
 use Rattle.meaning.specs.Register.{registerTag, sourcesAt, mostSources, mostLines, mostNameBytes, sourcesOf, sourceCount, lineCount, nameBytes, wholeLength, lengthTest, headerTests, sourceTest, restTest, repeatTest, registerTests}
-use Rattle.meaning.specs.Calls.{lineTest, massTest, calculationTests, calculatedReport, calculated}
+use Rattle.meaning.specs.Calls.{written, lineTest, massTest, calculationTests, calculatedReport, calculated}
 use Rattle.meaning.proofs.Calls.{refused-gives}
 use Rattle.meaning.proofs.Registers.{right-header}
-use Rattle.report.specs.Output.{front, said, textOutput, output}
 
 -- one byte more than the longest register
 abbrev longer : ℕ
@@ -77,11 +76,9 @@ refused-tests b {n} {p} l e =
 same-outcome : {o q : Outcome} {a : Answer} {bytes : List ℕ} → Gives o a bytes → Gives q a bytes → o ≡ q
 same-outcome g h = λ i. record { answer = (sym (g .answers) ∙ h .answers) i; left = (sym (g .leaves) ∙ h .leaves) i }
 
-refused-same : (b c report : List ℕ) {n p : ℕ} → firstRefusal (calculationTests b) ≡ Refuses n p → firstRefusal (calculationTests c) ≡ Refuses n p
-    → calculated b report ≡ calculated c report
-unfolding calculated
-refused-same b c report e f =
-    same-outcome (refused-gives (calculationTests b) (calculatedReport b) report e) (refused-gives (calculationTests c) (calculatedReport c) report f)
+pub refused-alike : (tests others : List Verdict) (made other buffer : List ℕ) {n p : ℕ} → firstRefusal tests ≡ Refuses n p → firstRefusal others ≡ Refuses n p
+    → written tests made buffer ≡ written others other buffer
+refused-alike tests others made other buffer e f = same-outcome (refused-gives tests made buffer e) (refused-gives others other buffer f)
 
 module _ (xs ys : List ℕ) (l : longer ≤ length xs) where
   fields-same : fieldTests (xs ++ ys) ≡ fieldTests xs
@@ -101,15 +98,12 @@ module _ (xs ys : List ℕ) (l : longer ≤ length xs) where
       (same-behind (fieldTests xs) (lastTest (xs ++ ys) ∷ []) (lastTest xs ∷ []) passed-same)
 
   refused-by : (v : Verdict) → firstRefusal (headerTests xs) ≡ v → (report : List ℕ) → calculated (xs ++ ys) report ≡ calculated xs report
+  unfolding calculated
   refused-by Passes e report = let h = right-header xs e in absurd (omega (arith, h .sources, h .lines, h .names, h .filled))
   refused-by (Refuses n p) e report =
       let m : longer ≤ length (xs ++ ys) = omega (arith, length-append xs ys) in
-      refused-same (xs ++ ys) xs report (refused-tests (xs ++ ys) m (header-same ∙ e)) (refused-tests xs l e)
+      refused-alike (calculationTests (xs ++ ys)) (calculationTests xs) (calculatedReport (xs ++ ys)) (calculatedReport xs) report
+      (refused-tests (xs ++ ys) m (header-same ∙ e)) (refused-tests xs l e)
 
-  calculated-same : (report : List ℕ) → calculated (xs ++ ys) report ≡ calculated xs report
+  pub calculated-same : (report : List ℕ) → calculated (xs ++ ys) report ≡ calculated xs report
   calculated-same = refused-by (firstRefusal (headerTests xs)) refl
-
-  -- what the program says goes by the first 45,089 bytes alone
-  pub output-same : (room : List ℕ) → output (xs ++ ys) room ≡ output xs room
-  unfolding output
-  output-same room = ap (λ (o : Outcome). said (o .answer) (textOutput (front o) room)) (calculated-same (replicate 20536 0))

@@ -1,0 +1,6 @@
+pub mod Coming
+pub mod Digits
+pub mod Longer
+pub mod Names
+pub mod Settling
+pub mod TooLong

@@ -1,0 +1,35 @@
+use mathlib.Core.Path.{_≡_}
+use Prim.Native.Nat.{_-_, _≤_}
+use native.Mathlib.Omega.{arith}
+use borrow.Author.Needs.{needs}
+use lib.ListN.{length}
+use Rattle.files.proofs.create_beside.Statement.{statement}
+use Rattle.files.proofs.create_beside.Tie as tie
+
+abbrev Inv-loop : tie.InvT-loop
+Inv-loop path name₀ number₀ name number = (length name ≡ length name₀) × (number ≤ 1000)
+
+abbrev μ-loop : tie.MeasureT-loop
+μ-loop path name₀ number₀ name number = 1000 - number
+
+pub create-beside-spec : {M : Type 1} → statement M
+create-beside-spec =
+    tie.close
+    (tie.spec
+    Inv-loop
+    μ-loop
+    (λ c. search needs)
+    (λ c κs. search needs)
+    (λ c. search needs)
+    (λ c. search needs)
+    (λ c κs. search needs)
+    (λ c. search needs)
+    (λ c. search needs)
+    (λ c κs. search needs)
+    (λ c. search needs)
+    (λ c. search needs)
+    (λ c. search needs)
+    (λ c. search needs)
+    (λ c. search needs)
+    (λ c. search needs)
+    (λ c. search needs))
