@@ -5,7 +5,7 @@
 //!
 //! The rest makes inputs: `draft` writes registers out of their parts, `call` is a call with all that is lent to it,
 //! `sums` has results that are known from outside, `cases` has chosen calls, `generator` makes calls from a seed,
-//! `examples` and `listing` are for people.
+//! `examples` and `listing` are for people, `samples` are for the test of the front door.
 
 pub mod answers;
 pub mod bytes;
@@ -20,4 +20,5 @@ pub mod masses;
 pub mod methods;
 pub mod register;
 pub mod report;
+pub mod samples;
 pub mod sums;

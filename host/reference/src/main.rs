@@ -5,7 +5,7 @@ use std::path::Path;
 use std::process::ExitCode;
 
 use reference::cases::Group;
-use reference::{calls, cases, examples, generator, listing};
+use reference::{calls, cases, examples, generator, listing, samples};
 
 const USAGE: &str = "\
 reference report < REGISTER     what the report program writes
@@ -14,6 +14,7 @@ reference counts SEED COUNT     how many of so many generated calls gave each an
 reference cases DIR             data/calls, stdout and calls.txt: chosen calls, what they answer, and a listing
 reference cases DIR SEED COUNT  the same of generated calls
 reference examples DIR          the examples with their listings
+reference samples DIR           the registers and reports on which the front door is tried
 ";
 
 fn main() -> ExitCode {
@@ -26,6 +27,7 @@ fn main() -> ExitCode {
         ["cases", dir] => write_cases(Path::new(dir), &cases::chosen()),
         ["cases", dir, seed, count] => write_generated(Path::new(dir), seed, count),
         ["examples", dir] => write_examples(Path::new(dir)),
+        ["samples", dir] => write_samples(Path::new(dir)),
         _ => {
             eprint!("{USAGE}");
             return ExitCode::from(2);
@@ -87,4 +89,8 @@ fn write_examples(dir: &Path) -> io::Result<()> {
         std::fs::write(dir.join(format!("{name}.txt")), listing)?;
     }
     Ok(())
+}
+
+fn write_samples(dir: &Path) -> io::Result<()> {
+    samples::all().iter().try_for_each(|(name, bytes)| std::fs::write(dir.join(name), bytes))
 }

@@ -1,0 +1,26 @@
+use borrow.Author.Needs.{needs}
+use Rattle.files.proofs.Coming.{coming}
+use Rattle.name.proofs.name_in_either.Statement.{statement}
+use Rattle.name.proofs.name_in_either.Tie as tie
+
+pub name-in-either-spec : {M : Type 1} → statement M
+name-in-either-spec =
+    tie.close
+    (tie.spec
+    (search needs)
+    (search needs)
+    (search needs)
+    (search needs)
+    (search needs)
+    (search needs)
+    (search needs)
+    (search needs)
+    (search needs)
+    (search needs)
+    (λ c. search coming)
+    (λ c. search coming)
+    (λ c. search coming)
+    (λ c. search coming)
+    (search needs)
+    (search needs)
+    (search needs))

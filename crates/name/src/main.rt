@@ -1,0 +1,45 @@
+// `name NUMBER REGISTER [REGISTER]`: the name of a source, in a plant's register or in either of the plant's and its contractor's. An empty
+// line says that there is none.
+use files::Input;
+use files::Numeral;
+use files::REGISTER_ROOM;
+
+fn name_in_one(number: u32) {
+    let mut register = [0u8; REGISTER_ROOM];
+    let input = files::read_file(2, &mut register);
+    let Input::Came(n) = input else {
+        return;
+    };
+    files::say_line(registers::name_of(&register[..n], number));
+}
+
+fn name_in_either(number: u32) {
+    let mut plant = [0u8; REGISTER_ROOM];
+    let input = files::read_file(2, &mut plant);
+    let Input::Came(n) = input else {
+        return;
+    };
+    let mut contractor = [0u8; REGISTER_ROOM];
+    let other = files::read_file(3, &mut contractor);
+    let Input::Came(m) = other else {
+        return;
+    };
+    files::say_line(registers::name_of_either(&plant[..n], &contractor[..m], number));
+}
+
+fn main() {
+    let words = os::arg_count();
+    if words < 3 || 4 < words {
+        files::complain(b"use: name NUMBER REGISTER [REGISTER]\n");
+        return;
+    }
+    let numeral = files::read_number(1);
+    let Numeral::Number(number) = numeral else {
+        return;
+    };
+    if words == 3 {
+        name_in_one(number);
+    } else {
+        name_in_either(number);
+    }
+}

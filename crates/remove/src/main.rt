@@ -1,0 +1,27 @@
+// `remove REPORT NUMBER RESULT`: a report without the entry of a number, made in a file.
+use files::Input;
+use files::Numeral;
+use files::REPORT_ROOM;
+
+fn remove(report: &[u8], number: u32) {
+    let mut result = [0u8; REPORT_ROOM];
+    let answer = combining::remove(report, number, &mut result);
+    files::settle(answer, &result, 3);
+}
+
+fn main() {
+    if os::arg_count() != 4 {
+        files::complain(b"use: remove REPORT NUMBER RESULT\n");
+        return;
+    }
+    let numeral = files::read_number(2);
+    let Numeral::Number(number) = numeral else {
+        return;
+    };
+    let mut report = [0u8; REPORT_ROOM];
+    let input = files::read_file(1, &mut report);
+    let Input::Came(n) = input else {
+        return;
+    };
+    remove(&report[..n], number);
+}
