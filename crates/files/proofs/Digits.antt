@@ -1,18 +1,15 @@
--- A word read digit by digit, and a decimal read back. Assumes nothing.
-use mathlib.Core.Bool.{true, false, _&&_}
-use mathlib.Core.List.{List, [], _∷_, _++_}
-use mathlib.Core.Path.{_≡_, refl, sym, ap, _∙_}
-use Prim.Native.Nat.{ℕ, zero, suc, _+_, _*_, _-_, _/_, _%_, _≤_, _<_}
+-- A word read digit by digit. Assumes nothing.
+use mathlib.Core.List.{List, [], _∷_}
+use mathlib.Core.Path.{_≡_, refl}
+use Prim.Native.Nat.{ℕ, _+_, _*_, _-_, _≤_, _<_}
 use native.Mathlib.Numerals.{add-one}
 use native.Mathlib.Omega.{arith}
 use borrow.Author.Needs.{needs}
 use borrow.Author.Tests.{lt-ltb, le-ltb}
-use lib.Dec.{ltb}
 use lib.ListN.{length, getD, drop, drop-of-length-le}
 use lib.Seq.{drop-cons}
-use Rattle.files.specs.declared.Numeral.{Numeral}
 use Rattle.files.specs.declared.Numeral.the-variants.{NoNumber, Number}
-use Rattle.files.specs.Numerals.{isDigit, readOn, numberIn}
+use Rattle.files.specs.Numerals.{readOn, numberIn}
 
 -- i bytes of a word are read, and say n
 pub record Reading (word : List ℕ) (n i : ℕ) : Type 0 where

@@ -1,12 +1,12 @@
 -- The name of a new file, as it is put together and lent on. Assumes nothing.
 use mathlib.Core.List.{List, _++_}
-use mathlib.Core.Path.{_≡_, refl, ap, _∙_}
+use mathlib.Core.Path.{_≡_, refl}
 use Prim.Native.Nat.{ℕ, _+_, _≤_}
 use native.Mathlib.Omega.{arith}
 use borrow.Author.Needs.{needs}
 use lib.ListN.{length, take, length-append}
 use Rattle.basis.specs.Bytes.{ascii, Written}
-use Rattle.basis.proofs.Bytes.{written-then, length-written}
+use Rattle.basis.proofs.Bytes.{written-then}
 use Rattle.texts.specs.Digits.{Fronted, field}
 use Rattle.texts.proofs.Lines.{fronted}
 use Rattle.texts.proofs.Saying.{front-is}

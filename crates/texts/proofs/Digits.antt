@@ -27,7 +27,7 @@ unfolding digits spelled
 one-digit zero n l = let e : n % 10 ≡ n = omega arith in rw e
 one-digit (suc fuel) n l = let e : n % 10 ≡ n = omega arith in rw (lt-ltb n 10 l, e)
 
-more-digits : (fuel n : ℕ) → 10 ≤ n → digits (suc fuel) n ≡ digits fuel (n / 10) ++ (digit (n % 10) ∷ [])
+pub more-digits : (fuel n : ℕ) → 10 ≤ n → digits (suc fuel) n ≡ digits fuel (n / 10) ++ (digit (n % 10) ∷ [])
 unfolding digits
 more-digits fuel n l = rw (le-ltb n 10 l)
 

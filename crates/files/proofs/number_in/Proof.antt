@@ -1,5 +1,4 @@
 use Prim.Native.Nat.{_-_}
-use native.Mathlib.Omega.{arith}
 use lib.ListN.{length}
 use Rattle.files.proofs.Digits.{Reading, reading}
 use Rattle.files.proofs.number_in.Statement.{statement}
