@@ -1,4 +1,5 @@
--- Two inputs that are longer than a report, or a register, can be are answered alike by every call, so a program's room settles it. Assumes nothing.
+-- Two inputs that are longer than a report can be are answered alike by every call on reports, and two that are longer than a register can be by
+-- the lookups. Assumes nothing.
 use mathlib.Core.Bool.{Bool, true, false, _&&_}
 use mathlib.Core.List.{List, [], _∷_}
 use mathlib.Core.Path.{_≡_, refl}

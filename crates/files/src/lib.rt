@@ -49,20 +49,20 @@ pub fn complain(line: &[u8]) {
     io::write_all(STDERR_FILENO, line);
 }
 
-// All that a command has to say on standard output.
-pub fn say(text: &[u8]) {
-    let written = io::write_all(STDOUT_FILENO, text);
+fn complain_unless(written: bool) {
     if !written {
         os::fail(b"standard output");
     }
 }
 
+// All that a command has to say on standard output.
+pub fn say(text: &[u8]) {
+    complain_unless(io::write_all(STDOUT_FILENO, text));
+}
+
 // Bytes and the line feed behind them, on standard output.
 pub fn say_line(text: &[u8]) {
-    let written = io::write_all(STDOUT_FILENO, text) && io::write_all(STDOUT_FILENO, b"\n");
-    if !written {
-        os::fail(b"standard output");
-    }
+    complain_unless(io::write_all(STDOUT_FILENO, text) && io::write_all(STDOUT_FILENO, b"\n"));
 }
 
 fn read_some(fd: i32, part: &mut [u8]) -> Input
