@@ -1,16 +1,16 @@
 -- What has come into a room, and what of it is lent on. Assumes nothing.
 use mathlib.Core.List.{List}
-use mathlib.Core.Path.{_≡_, sym}
+use mathlib.Core.Path.{_≡_}
 use Prim.Native.Nat.{ℕ, _≤_}
 use borrow.Author.Needs.{needs}
 use lib.ListN.{length, take}
-use lib.Seq.{length-take-le}
+use Rattle.basis.proofs.Lists.{counted}
 use Rattle.files.specs.declared.Input.{Input}
 use Rattle.files.specs.declared.Input.the-variants.{Came}
 use Rattle.files.specs.Files.{Front, Within}
 
 pub fronting : (n : ℕ) (room : List ℕ) → n ≤ length room → Front n room
-fronting n room l = record { within = l; part = sym (length-take-le n room l) }
+fronting n room l = record { within = l; part = counted n room l }
 
 module _ {input : Input} {room : List ℕ} {n : ℕ} (w : Within input room) (e : input ≡ Came n) where
   came-front : Front n room
