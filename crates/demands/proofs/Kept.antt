@@ -17,6 +17,7 @@ use Rattle.demands.proofs.ReportCalls.{combination-exactly, combination
 use Rattle.meaning.proofs.Computed.{starred, kinds, examples, byHand}
 use Rattle.demands.proofs.Tabled.{tabled}
 use Rattle.demands.proofs.Texts.{texts}
+use Rattle.demands.proofs.Longest.{longest}
 use Rattle.demands.proofs.Calculated.{calculation-exactly, calculation-answers}
 use Rattle.demands.proofs.Encoded.{encode-laid, encode-year, encode-sources, encode-bytes}
 use Rattle.demands.proofs.Laid.{encode-again, laid-encodable}
@@ -84,6 +85,7 @@ kept =
       encodings = encodings;
       names = names-kept;
       texts = texts;
+      longest = longest;
       dealing = dealing;
       everyDealing = every-dealing;
       neutral = neutral;

@@ -28,6 +28,7 @@ pub mod EveryDealing
 pub mod Removal
 pub mod SourceAgain
 pub mod Texts
+pub mod Longest
 pub mod Masses
 pub mod Names
 pub mod Algebra

@@ -65,7 +65,7 @@ unfolding joined
 entries-printed [] v = refl
 entries-printed (e ∷ es) v = ap₂ _++_ (ap (λ (fs : List ℕ). textLine (e .number ∷ e .method ∷ fs)) (sym (figures-printed e (v .0)))) (entries-printed es (v .1))
 
-text-is : (year : ℕ) (es : List Entry) → Each Entered es → joined (map textLine (printed year es)) ≡ reportText year es
+pub text-is : (year : ℕ) (es : List Entry) → Each Entered es → joined (map textLine (printed year es)) ≡ reportText year es
 unfolding joined reportText
 text-is year es v = ap₂ _++_ (ap (λ (ts : List ℕ). textLine (year ∷ length es ∷ ts)) (sym (totals-printed es v))) (entries-printed es v)
 

@@ -4,7 +4,7 @@ use Rattle.meaning.specs.Kinds.{Kinds}
 use Rattle.meaning.specs.Examples.{Examples}
 use Rattle.meaning.specs.ByHand.{ByHand}
 use Rattle.demands.specs.Table.{Tabled}
-use Rattle.demands.specs.Text.{Texts}
+use Rattle.demands.specs.Text.{Texts, Longest}
 use Rattle.demands.specs.Demand1.{Demand1}
 use Rattle.demands.specs.Demand2.{Refusals, Masses, Fixed, Encodings, Names}
 use Rattle.demands.specs.Demand3.{Dealing, EveryDealing, Neutral, Again, SourceAgain}
@@ -23,6 +23,7 @@ pub record Demands : Type 1 where
   pub encodings : Encodings
   pub names : Names
   pub texts : Texts
+  pub longest : Longest
   -- 3
   pub dealing : Dealing
   pub everyDealing : EveryDealing

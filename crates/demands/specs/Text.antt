@@ -10,7 +10,7 @@ use Rattle.meaning.specs.Report.{Entry}
 use Rattle.meaning.specs.Text.{reportText}
 use Rattle.meaning.specs.Calls.{text}
 use Rattle.demands.specs.Table.{CO2, CH4, N2O}
-use Rattle.demands.specs.Valid.{massOf, equivalentOf, Entered, IsReport}
+use Rattle.demands.specs.Valid.{massOf, equivalentOf, Entered, Reportable, IsReport}
 use Rattle.demands.specs.Trees.{Accepted}
 
 -- the number that digits stand for, highest first, behind a number
@@ -49,3 +49,7 @@ pub record Texts : Type 0 where
   pub left : (report buffer : List ℕ) → Bytes report → Accepted (text report buffer)
       → (year : ℕ) × (es : List Entry) × (t : List ℕ) × IsReport report year es × Lines (printed year es) t
       × (text report buffer .answer .length ≡ length t) × (text report buffer .left ≡ splice buffer 0 t)
+
+-- No text is longer, so a room of 40,960 bytes, as a program lends, is enough for each.
+abbrev pub Longest : Type 0
+Longest = (year : ℕ) (es : List Entry) → Reportable year es → length (reportText year es) ≤ 38994

@@ -9,3 +9,4 @@ pub mod Masses
 pub mod Lines
 pub mod Lengths
 pub mod Totals
+pub mod Decimals

@@ -14,6 +14,7 @@ use mir.Val.{Fits}
 use Rattle.basis.specs.Bytes.{splice, Written}
 use Rattle.basis.proofs.Bytes.{splice-none}
 use Rattle.meaning.specs.Text.{digit, digits, decimal}
+use Rattle.meaning.proofs.Decimals.{decimal-few as few-digits}
 use Rattle.texts.specs.Digits.{spelled, Counted}
 
 pub length-spelled : (k n : ℕ) → length (spelled k n) ≡ k
@@ -48,19 +49,8 @@ digits-spelled (suc k) (suc fuel) n f l h =
     rw (more-digits fuel n (omega arith), digits-spelled k fuel (n / 10) (omega arith) (omega arith) (λ q. omega arith))
 
 -- no number of 64 bits has more than twenty digits
-digits-few : (k fuel n : ℕ) → n < 10 ^ suc k → length (digits fuel n) ≤ suc k
-unfolding digits
-digits-few zero fuel n l = rw (one-digit fuel n (omega (arith, rw (pow-suc 10 0) at l)), length-spelled 1 n) (omega arith)
-digits-few (suc k) zero n l = omega arith
-digits-few (suc k) (suc fuel) n l = by (decLt n 10) (digits-few k fuel (n / 10) (omega (arith, rw (pow-suc 10 (suc k)) at l)))
-  where
-    by : Dec (n < 10) → length (digits fuel (n / 10)) ≤ suc k → length (digits (suc fuel) n) ≤ suc (suc k)
-    by (yes s) h = rw (one-digit (suc fuel) n s, length-spelled 1 n) (omega arith)
-    by (no s) h = rw (more-digits fuel n (omega arith), length-append) (omega arith)
-
 pub decimal-few : (n : ℕ) → Fits w64 n → length (decimal n) ≤ 20
-unfolding decimal
-decimal-few n f = digits-few 19 n n (omega (arith, f .fits))
+decimal-few n f = few-digits 19 n (omega (arith, f .fits))
 
 -- n has k digits or more, and power is the least number that has k
 pub record Counting (n power k : ℕ) : Type 0 where

@@ -18,7 +18,7 @@ use reports::ENTRIES_AT;
 use reports::ENTRY_LENGTH;
 use reports::FIGURES;
 
-// Room for the text of the longest report; were it short, a program would say so by 8 and the length needed.
+// Room for the text of any report: none has more than 38,994 bytes (`longest` in `demands`).
 pub const TEXT_ROOM: usize = 40960;
 
 // "refused" with its space, and two numbers of at most twenty digits, each with the byte behind it.
