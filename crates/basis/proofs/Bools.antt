@@ -36,3 +36,11 @@ or-either false b e = inr e
 pub either-or : (a b : Bool) → (a ≡ true) ⊎ (b ≡ true) → a || b ≡ true
 either-or a b (inl e) = rw e
 either-or a b (inr e) = rw e (or-true a)
+
+pub or-none : (b : Bool) → b || false ≡ b
+or-none true = refl
+or-none false = refl
+
+pub or-assoc : (a b c : Bool) → (a || b) || c ≡ a || (b || c)
+or-assoc true b c = refl
+or-assoc false b c = refl

@@ -2,10 +2,10 @@
 use mathlib.Core.List.{List, [], _∷_, _++_}
 use mathlib.Core.Path.{_≡_}
 use Prim.Native.Nat.{ℕ, _+_, _≤_, _<_}
-use lib.ListN.{length}
+use lib.ListN.{length, drop}
 use Rattle.basis.specs.declared.Verdict.{Verdict}
 use Rattle.fields.specs.Fields.{Field}
-use Rattle.meaning.specs.Register.{sourcesAt, sourceCount, mostSources, lineCount, mostLines, nameBytes, mostNameBytes, wholeLength, lengthTest, headerTests, sourceTest, restTest, sourceEntry, nameLengthIn, namePlace, lineStart, nameStart}
+use Rattle.meaning.specs.Register.{sourcesAt, sourceCount, mostSources, lineCount, mostLines, nameBytes, mostNameBytes, namesAt, wholeLength, lengthTest, headerTests, sourceTest, restTest, sourceEntry, nameLengthIn, namePlace, lineStart, nameStart}
 
 -- the tests 1 to 3, which ask how the register is laid out and what is wrong with a source by itself
 unfoldable pub layoutTests : List ℕ → List Verdict
@@ -39,3 +39,7 @@ pub record HasName (b : List ℕ) (i : ℕ) : Type 0 where
 pub record Begins (b : List ℕ) (i line byte : ℕ) : Type 0 where
   pub atLine : line ≡ lineStart b i
   pub atByte : byte ≡ nameStart b i
+
+-- the names of all sources, which end the register
+abbrev pub allNames : List ℕ → List ℕ
+allNames b = drop (namesAt (sourceCount b) (lineCount b)) b

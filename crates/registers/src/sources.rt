@@ -10,7 +10,7 @@ ghost use Rattle.fields.specs.Fields.{Field};
 ghost use Rattle.meaning.specs.Methods.{listed};
 ghost use Rattle.meaning.specs.Register.{sourceLength, sourceEntry, namePlace, sourceAt, lineStart, nameStart, misplaced, badNameByte, unsound, wrongSource, sourceTest, restTest};
 ghost use Rattle.meaning.specs.Parts.{IsPart};
-ghost use Rattle.registers.specs.Layout.{Headed, HasEntry, HasName, Begins};
+ghost use Rattle.registers.specs.Layout.{Headed, HasEntry, HasName, Begins, allNames};
 use super::header::LINE;
 use super::header::SOURCE;
 use super::header::SOURCES;
@@ -91,20 +91,19 @@ fn is_misstated(register: &[u8], i: usize) -> bool
     (number == 0) | !listed | (lines == 0) | !((1 <= length) & (length <= 64))
 }
 
-// "A name byte is none below 32 and not 127"
+// "A name byte is none below 32 and not 127". The loop goes to the end, so that it may take many bytes at a time.
 fn has_bad_byte(name: &[u8]) -> bool
     ensures { λ r. ⌜ r ≡ any badNameByte (now (name .entry)) ⌝ }
 {
+    let mut bad = false;
     let mut i: usize = 0;
     while i < name.len() {
         let byte = name[i];
-        let bad = (byte < 32) | (byte == 127);
-        if bad {
-            return true;
-        }
+        let wrong = (byte < 32) | (byte == 127);
+        bad = bad | wrong;
         i += 1;
     }
-    false
+    bad
 }
 
 // Where the name of entry i begins.
@@ -135,10 +134,22 @@ fn has_bad_name(register: &[u8], i: usize) -> bool
     has_bad_byte(part(register, start, size))
 }
 
+// Whether any name byte of the register is bad. Mostly none is, and then no name is read by itself.
+fn has_bad_names(register: &[u8]) -> bool
+    requires { ⌜ Headed (now register) ⌝ }
+    ensures { λ r. ⌜ r ≡ any badNameByte (allNames (now (register .entry))) ⌝ }
+{
+    let n = fields::u16_at(register, 8) as usize;
+    let m = fields::u16_at(register, 10) as usize;
+    let start = SOURCES + SOURCE * n + LINE * m;
+    has_bad_byte(part(register, start, register.len() - start))
+}
+
 // Whether entry i is wrong. Its name is read only once it is known to stand within the names.
-fn is_wrong(register: &[u8], i: usize, line: u64, byte: u64) -> bool
+fn is_wrong(register: &[u8], i: usize, line: u64, byte: u64, spoiled: bool) -> bool
     requires { ⌜ HasEntry (now register) i ⌝ }
     requires { ⌜ Begins (now register) i line byte ⌝ }
+    requires { ⌜ spoiled ≡ any badNameByte (allNames (now register)) ⌝ }
     ensures { λ r. ⌜ r ≡ wrongSource (now (register .entry)) i ⌝ }
 {
     let misplaced = is_misplaced(register, i, line, byte);
@@ -149,7 +160,10 @@ fn is_wrong(register: &[u8], i: usize, line: u64, byte: u64) -> bool
     if misstated {
         return true;
     }
-    has_bad_name(register, i)
+    if spoiled {
+        return has_bad_name(register, i);
+    }
+    false
 }
 
 // Test 3 over all sources, and then that no line and no name byte is left over.
@@ -160,11 +174,12 @@ pub fn test_sources(register: &[u8]) -> Verdict
     let n = fields::u16_at(register, 8) as usize;
     let m = fields::u16_at(register, 10);
     let t = fields::u32_at(register, 12);
+    let spoiled = has_bad_names(register);
     let mut line: u64 = 0;
     let mut byte: u64 = 0;
     let mut i: usize = 0;
     while i < n {
-        let wrong = is_wrong(register, i, line, byte);
+        let wrong = is_wrong(register, i, line, byte, spoiled);
         if wrong {
             return Verdict::Refuses {
                 number: 3,

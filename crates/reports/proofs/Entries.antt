@@ -1,7 +1,7 @@
 -- An entry as it is read at its place, and what is wrong with it. Assumes nothing.
-use mathlib.Core.Bool.{Bool, true, false, not, _||_}
+use mathlib.Core.Bool.{Bool, true, not, _||_}
 use mathlib.Core.List.{List, map}
-use mathlib.Core.Path.{_≡_, refl, sym, ap, _∙_}
+use mathlib.Core.Path.{_≡_, sym, ap, _∙_}
 use Prim.Native.Nat.{ℕ, _+_, _*_, _≤_, _<_}
 use native.Mathlib.Nat.{add-assoc, add-zero}
 use native.Mathlib.Omega.{arith}
@@ -10,7 +10,7 @@ use lib.Dec.{eqb, ltb, leb}
 use lib.ListN.{length, drop}
 use Rattle.basis.specs.Bytes.{numberAt}
 use Rattle.basis.specs.Lists.{countUp}
-use Rattle.basis.proofs.Bools.{or-true}
+use Rattle.basis.proofs.Bools.{or-true, or-none, or-assoc}
 use Rattle.basis.proofs.Rows.{numberAt-drop}
 use Rattle.meaning.specs.Methods.{within}
 use Rattle.meaning.specs.Masses.{gasCount, equivalent, limit}
@@ -24,10 +24,6 @@ use Rattle.exact.specs.Equivalents.{withinLimit}
 use Rattle.exact.proofs.Equivalents.{within-exactly, above-exactly}
 use Rattle.reports.specs.Figures.{figureAt, figuresAt}
 use Rattle.reports.specs.Stated.{wrongEquivalent}
-
-or-none : (b : Bool) → b || false ≡ b
-or-none true = refl
-or-none false = refl
 
 -- figures behind a place are those of what stands from there on
 pub figures-drop : (count : ℕ) (b : List ℕ) (at p : ℕ) → figuresAt count b (at + p) ≡ figuresAt count (drop at b) p
@@ -55,10 +51,6 @@ module _ (b : List ℕ) (at : ℕ) {ms : List ℕ} {w : Weighed} (m : ms ≡ ent
       let h = within-exactly ms right .0 (sym v ∙ e) in
       let s : stated ≡ figureIn (drop at b) gasCount = field-behind at (8 + 8 * gasCount) (rw add-assoc at f) .is in
       rw (← m, ← s, ← h .1, le-ltb limit right (omega (arith, h .0, h .1))) (sym (or-none (not (eqb stated right))))
-
-or-assoc : (a b c : Bool) → (a || b) || c ≡ a || (b || c)
-or-assoc true b c = refl
-or-assoc false b c = refl
 
 -- entry i, by the fields that were read and by its equivalent
 pub entry-judged : (b : List ℕ) (i : ℕ) {before number method zeros : ℕ} {unequal : Bool} → before ≡ numberBefore b i

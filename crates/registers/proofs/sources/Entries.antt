@@ -1,23 +1,25 @@
 -- An entry of the register: its fields, where it has to begin, and what makes it wrong. Assumes nothing.
 use mathlib.Core.Bool.{Bool, true, false, not, _||_}
 use mathlib.Core.List.{List}
-use mathlib.Core.Path.{_≡_, refl, sym, _∙_}
-use Prim.Native.Nat.{ℕ, _+_, _≤_, _<_}
+use mathlib.Core.Path.{_≡_, refl, sym, ap, _∙_}
+use Prim.Native.Nat.{ℕ, _+_, _-_, _≤_, _<_}
 use native.Mathlib.Numerals.{add-one}
 use native.Mathlib.Omega.{arith}
 use borrow.Author.Needs.{needs}
 use lib.Dec.{eqb, ltb}
-use lib.ListN.{length, getD, take, drop, length-map, length-drop, drop-of-length-le}
-use lib.Seq.{drop-cons, length-take-le}
+use lib.ListN.{length, getD, take, drop, length-map, length-drop, drop-of-length-le, take-append-drop}
+use lib.Seq.{drop-cons, drop-drop, take-all, length-take-le}
 use Rattle.basis.specs.Lists.{any}
 use Rattle.basis.specs.Answers.{Shows}
+use Rattle.basis.proofs.Bools.{or-assoc, or-none}
+use Rattle.basis.proofs.Counting.{any-append}
 use Rattle.basis.proofs.Lists.{length-countUp}
 use Rattle.fields.specs.Fields.{Field}
 use Rattle.fields.proofs.Laws.{field-behind}
 use Rattle.meaning.specs.Methods.{listed, within}
-use Rattle.meaning.specs.Register.{sourceCount, sourceEntry, nameLengthIn, namePlace, sourceAt, lineStart, nameStart, misplaced, badNameByte, unsound, wrongSource}
+use Rattle.meaning.specs.Register.{sourceCount, lineCount, namesAt, sourceEntry, nameLengthIn, nameOffsetIn, namePlace, sourceAt, lineStart, nameStart, misplaced, badNameByte, unsound, wrongSource}
 use Rattle.meaning.proofs.Sources.{placed}
-use Rattle.registers.specs.Layout.{Headed, HasEntry, HasName, Begins}
+use Rattle.registers.specs.Layout.{Headed, HasEntry, HasName, Begins, allNames}
 
 -- of n sources, each below n has its entry
 pub has-entry : {b : List ℕ} {n i : ℕ} → Headed b → n ≡ sourceCount b → i < n → HasEntry b i
@@ -62,28 +64,44 @@ module _ (b : List ℕ) (i : ℕ) where
   unfolding sourceAt
   name-is p f s e = e ∙ rw (s .holds, p, f .is)
 
--- the bytes passed are good, and those that are left decide
-pub record Looked (name : List ℕ) (i : ℕ) : Type 0 where
-  pub low : i ≤ length name
-  pub rest : any badNameByte name ≡ any badNameByte (drop i name)
+-- and the part from where the names begin is all of them
+pub names-are : {A : Type 0} (b : List ℕ) {base : A} {from n m : ℕ} {held : List ℕ} {place : A × ℕ} {bad : Bool} → Field 2 b 8 n → Field 2 b 10 m
+    → Shows b base from (namesAt n m) (length b - namesAt n m) held place → bad ≡ any badNameByte held → bad ≡ any badNameByte (allNames b)
+names-are b {n = n} {m = m} f g s e =
+    let all : take (length b - namesAt n m) (drop (namesAt n m) b) ≡ drop (namesAt n m) b = take-all (length b - namesAt n m) (drop (namesAt n m) b) (rw length-drop (omega arith)) in
+    e ∙ rw (s .holds, all, f .is, g .is)
 
-pub look-none : {name : List ℕ} → Looked name 0
+-- the bytes passed, and those that are left, decide together
+pub record Looked (name : List ℕ) (bad : Bool) (i : ℕ) : Type 0 where
+  pub low : i ≤ length name
+  pub rest : bad || any badNameByte (drop i name) ≡ any badNameByte name
+
+pub look-none : {name : List ℕ} → Looked name false 0
 look-none = record { low = omega arith; rest = refl }
 
-module _ {name : List ℕ} {i : ℕ} (k : Looked name i) where
-  next : i < length name → any badNameByte name ≡ badNameByte (getD name i 0) || any badNameByte (drop (i + 1) name)
+module _ {name : List ℕ} {bad : Bool} {i : ℕ} (k : Looked name bad i) where
+  pub look-more : i < length name → Looked name (bad || badNameByte (getD name i 0)) (i + 1)
   unfolding any
-  next h = k .rest ∙ rw (drop-cons name i 0 h, add-one i)
+  look-more h =
+      let e : any badNameByte (drop i name) ≡ badNameByte (getD name i 0) || any badNameByte (drop (i + 1) name) = rw (drop-cons name i 0 h, add-one i) in
+      record { low = omega arith; rest = or-assoc bad (badNameByte (getD name i 0)) (any badNameByte (drop (i + 1) name)) ∙ ap (λ (r : Bool). bad || r) (sym e) ∙ k .rest }
 
-  pub look-bad : i < length name → badNameByte (getD name i 0) ≡ true → true ≡ any badNameByte name
-  look-bad h e = sym (next h ∙ rw e)
-
-  pub look-more : i < length name → badNameByte (getD name i 0) ≡ false → Looked name (i + 1)
-  look-more h e = record { low = omega arith; rest = next h ∙ rw e }
-
-  pub look-all : length name ≤ i → false ≡ any badNameByte name
+  pub look-all : length name ≤ i → bad ≡ any badNameByte name
   unfolding any
-  look-all h = sym (k .rest ∙ rw (drop-of-length-le name h))
+  look-all h = sym (or-none bad) ∙ rw (drop-of-length-le name h) at (k .rest)
+
+-- where no name byte of the register is bad, none of a source's is
+good-part : (test : ℕ → Bool) (xs : List ℕ) (k p : ℕ) → any test xs ≡ false → any test (take k (drop p xs)) ≡ false
+good-part test xs k p e =
+    let f = any-append test (take p xs) (drop p xs) (rw take-append-drop e) .1 in
+    any-append test (take k (drop p xs)) (drop k (drop p xs)) (rw take-append-drop f) .0
+
+good-name : (b : List ℕ) (i : ℕ) → any badNameByte (allNames b) ≡ false → any badNameByte (sourceAt b i .name) ≡ false
+unfolding sourceAt
+good-name b i e =
+    let r = sourceEntry b i in
+    let at = namesAt (sourceCount b) (lineCount b) in
+    rw (← drop-drop (nameOffsetIn r) at) (good-part badNameByte (allNames b) (nameLengthIn r) (nameOffsetIn r) e)
 
 -- an entry is wrong where it is misplaced, misstated, or has a bad name
 module _ (b : List ℕ) (i : ℕ) {place : Bool} (p : place ≡ misplaced b i) where
@@ -96,9 +114,13 @@ module _ (b : List ℕ) (i : ℕ) {place : Bool} (p : place ≡ misplaced b i) w
     unfolding wrongSource
     wrong-misstated e = rw (← p, q, ← s, e)
 
+    pub wrong-unnamed : {some : Bool} → stated ≡ false → some ≡ any badNameByte (allNames b) → some ≡ false → false ≡ wrongSource b i
+    unfolding wrongSource
+    wrong-unnamed e f g = rw (← p, q, ← s, e) (sym (good-name b i (sym f ∙ g)))
+
     pub wrong-named : {bad : Bool} → stated ≡ false → bad ≡ any badNameByte (sourceAt b i .name) → bad ≡ wrongSource b i
     unfolding wrongSource
     wrong-named e f = rw (← p, q, ← s, e) f
 
 pub ruleset entries =
-    (needs, field-behind, line-end, name-end, misplaced-is, has-name, misstated-is, name-is, look-none, look-bad, look-more, look-all, wrong-misplaced, wrong-misstated, wrong-named)
+    (needs, field-behind, line-end, name-end, misplaced-is, has-name, misstated-is, name-is, names-are, look-none, look-more, look-all, wrong-misplaced, wrong-misstated, wrong-unnamed, wrong-named)

@@ -5,10 +5,10 @@ use Rattle.registers.proofs.sources.has_bad_byte.Statement.{statement}
 use Rattle.registers.proofs.sources.has_bad_byte.Tie as tie
 
 abbrev Inv-loop : tie.InvT-loop
-Inv-loop name i₀ i = Looked name i
+Inv-loop name bad₀ i₀ bad i = Looked name bad i
 
 abbrev μ-loop : tie.MeasureT-loop
-μ-loop name i₀ i = length name - i
+μ-loop name bad₀ i₀ bad i = length name - i
 
 pub has-bad-byte-spec : {M : Type 1} → statement M
 has-bad-byte-spec =
@@ -16,7 +16,6 @@ has-bad-byte-spec =
     (tie.spec
     Inv-loop
     μ-loop
-    (λ c. search entries)
     (λ c. search entries)
     (λ c. search entries)
     (λ c. search entries)

@@ -1,5 +1,5 @@
 use borrow.Author.Needs.{needs}
-use Rattle.registers.proofs.sources.Entries.{entries}
+use Rattle.registers.proofs.sources.Entries.{entries, wrong-unnamed}
 use Rattle.registers.proofs.sources.is_wrong.Statement.{statement}
 use Rattle.registers.proofs.sources.is_wrong.Tie as tie
 
@@ -12,4 +12,5 @@ is-wrong-spec =
     (λ c κs. search entries)
     (λ c. search entries)
     (λ c κs. search entries)
-    (λ c. search entries))
+    (λ c. search entries)
+    (λ c. search (needs, wrong-unnamed)))

@@ -4,10 +4,10 @@ use Rattle.registers.proofs.sources.test_sources.Statement.{statement}
 use Rattle.registers.proofs.sources.test_sources.Tie as tie
 
 abbrev Inv-loop : tie.InvT-loop
-Inv-loop register n m t line₀ byte₀ i₀ line byte i = Passing register n i line byte
+Inv-loop register n m t spoiled line₀ byte₀ i₀ line byte i = Passing register n i line byte
 
 abbrev μ-loop : tie.MeasureT-loop
-μ-loop register n m t line₀ byte₀ i₀ line byte i = n - i
+μ-loop register n m t spoiled line₀ byte₀ i₀ line byte i = n - i
 
 pub test-sources-spec : {M : Type 1} → statement M
 test-sources-spec =
@@ -15,6 +15,7 @@ test-sources-spec =
     (tie.spec
     Inv-loop
     μ-loop
+    (λ c κs. search passing)
     (λ c κs. search passing)
     (λ c κs. search passing)
     (λ c κs. search passing)
