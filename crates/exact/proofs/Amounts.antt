@@ -6,11 +6,13 @@ use native.Mathlib.Nat.{mul-le-mul, div-add-mod'}
 use native.Mathlib.Omega.{arith}
 use borrow.Author.Tests.{ltb-true, ltb-false, lt-ltb, le-ltb}
 use lib.Dec.{ltb}
+use mir.Syntax.{w64}
+use mir.Val.{Fits}
 use Rattle.meaning.specs.Register.{mostLines}
 use Rattle.exact.specs.declared.Amount.{Amount}
 use Rattle.meaning.specs.Methods.{largestContent, mostQuantity}
 use Rattle.meaning.specs.Masses.{mostFactor}
-use Rattle.exact.specs.Amounts.{gram, value, nothing, Ranged, OfLine, Room, Added, Subtracted}
+use Rattle.exact.specs.Amounts.{gram, value, nothing, Ranged, Room, Added, Subtracted}
 
 -- two comparisons that hold and fail together are one
 ltb-same : (a b c d : ℕ) → (a < b → c < d) → (b ≤ a → d ≤ c) → ltb a b ≡ ltb c d
@@ -53,15 +55,16 @@ pub largest-register : (a : Amount) → a .part < gram → value a ≤ mostLines
 unfolding value
 largest-register a p e = record { part-fits = p; whole-fits = omega arith }
 
--- a line's product that was parted by the gram before its last factor is the product still
-pub line-parted : {q content factor p high low : ℕ} → Ranged q content factor → p ≡ q * content → high ≡ factor * (p / gram) → low ≡ p % gram * factor
-    → OfLine (q * content * factor) (record { whole = high + low / gram; part = low % gram })
+-- a line's product that was parted by the gram before its last factor is the product still, and the part that it meets is carried on
+pub added-parted : {a : Amount} {q content factor p high low : ℕ} → Room 1 a → Ranged q content factor → p ≡ q * content → high ≡ factor * (p / gram)
+    → low ≡ p % gram * factor → Added a (q * content * factor) (record { whole = high + (low + a .part) / gram + a .whole; part = (low + a .part) % gram })
 unfolding value
-line-parted {q} {content} {factor} {p} r e f g =
+added-parted {q = q} {content = content} {factor = factor} {p = p} o r e f g =
     let m = ap (λ (n : ℕ). n * factor) e in
     let d = ap (λ (n : ℕ). n * factor) (div-add-mod' p gram) in
-    record {
-      is = omega arith;
-      part-fits = omega arith;
-      fits = mul-le-mul (mul-le-mul (r .quantity-fits) (r .content-fits)) (r .factor-fits);
-    }
+    let fits = mul-le-mul (mul-le-mul (r .quantity-fits) (r .content-fits)) (r .factor-fits) in
+    record { is = omega arith; part-fits = omega arith; whole-fits = omega (arith, o .part-fits) }
+
+pub added-fits : {a : Amount} {q content factor p high low : ℕ} → Room 1 a → Ranged q content factor → p ≡ q * content → high ≡ factor * (p / gram)
+    → low ≡ p % gram * factor → Fits w64 (high + (low + a .part) / gram + a .whole)
+added-fits {p = p} o r e f g = record { fits = omega (arith, o .whole-fits, added-parted {p = p} o r e f g .whole-fits) }

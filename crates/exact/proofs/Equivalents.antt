@@ -1,4 +1,4 @@
--- The equivalent by the room that is left, and its limit exactly. Assumes nothing.
+-- The equivalent gas by gas, and its limit exactly. Assumes nothing.
 use mathlib.Core.Bool.{Bool, true, false, cond}
 use mathlib.Core.List.{List}
 use mathlib.Core.Logic.{_↔_}
@@ -47,15 +47,15 @@ above-exactly ms = (by (leb (equivalent ms) limit) refl, above-limit ms)
     by true t p = absurd (never p)
     by false t p = leb-false (equivalent ms) limit t
 
--- the room that the gases before one leave below the limit
-pub record Left (ms : List ℕ) (room gas : ℕ) : Type 0 where
+-- the gases before one are weighed, each within the limit
+pub record Weighing (ms : List ℕ) (sum gas : ℕ) : Type 0 where
   pub gas-fits : gas ≤ gasCount
-  pub room-fits : room ≤ limit
-  pub rest : limit + weighed (drop gas warming) (drop gas ms) ≡ room + equivalent ms
+  pub sum-fits : sum ≤ limit * gas
+  pub rest : sum + weighed (drop gas warming) (drop gas ms) ≡ equivalent ms
 
-pub left-first : (ms : List ℕ) → Left ms limit 0
+pub weighing-first : (ms : List ℕ) → Weighing ms 0 0
 unfolding equivalent
-left-first ms = record { gas-fits = omega arith; room-fits = omega arith; rest = refl }
+weighing-first ms = record { gas-fits = omega arith; sum-fits = omega arith; rest = omega arith }
 
 -- a gas of a source that has all gases is weighed before the rest
 next-weighed : (ms : List ℕ) (gas : ℕ) → gas < gasCount → length ms ≡ gasCount
@@ -65,33 +65,42 @@ next-weighed ms gas g e =
     let m : gas < length ms = omega arith in
     rw (add-one gas, drop-cons warming gas 0 g, drop-cons ms gas 0 m)
 
-module _ {ms : List ℕ} {room gas weight : ℕ} (l : Left ms room gas) (g : gas < gasCount) (e : length ms ≡ gasCount) (is : weight ≡ getD warming gas 0) (p : 0 < weight) where
-  -- a mass that the room holds is taken from it
-  pub left-holds : getD ms gas 0 ≤ room / weight → weight * getD ms gas 0 ≤ room
-  left-holds h = rw mul-comm (le-div-iff-mul-le p .0 h)
+module _ {ms : List ℕ} {sum gas weight : ℕ} (l : Weighing ms sum gas) (g : gas < gasCount) (e : length ms ≡ gasCount) (is : weight ≡ getD warming gas 0) (p : 0 < weight) where
+  -- a mass that the limit holds
+  weighing-holds : getD ms gas 0 ≤ limit / weight → weight * getD ms gas 0 ≤ limit
+  weighing-holds h = rw mul-comm (le-div-iff-mul-le p .0 h)
 
-  pub left-fits : getD ms gas 0 ≤ room / weight → Fits w64 (weight * getD ms gas 0)
-  left-fits h = record { fits = omega (arith, left-holds h, l .room-fits) }
+  pub weighing-fits : getD ms gas 0 ≤ limit / weight → Fits w64 (weight * getD ms gas 0)
+  weighing-fits h = record { fits = omega (arith, weighing-holds h) }
 
-  pub left-next : getD ms gas 0 ≤ room / weight → Left ms (room - weight * getD ms gas 0) (gas + 1)
-  left-next h =
-      let t = left-holds h in
+  pub weighing-sum-fits : getD ms gas 0 ≤ limit / weight → Fits w64 (sum + weight * getD ms gas 0)
+  weighing-sum-fits h = record { fits = omega (arith, weighing-holds h, l .sum-fits) }
+
+  pub weighing-next : getD ms gas 0 ≤ limit / weight → Weighing ms (sum + weight * getD ms gas 0) (gas + 1)
+  weighing-next h =
+      let t = weighing-holds h in
       let n = rw (← is) at (next-weighed ms gas g e) in
-      record { gas-fits = omega arith; room-fits = omega (arith, l .room-fits); rest = omega (arith, l .rest) }
+      record { gas-fits = omega arith; sum-fits = omega (arith, l .sum-fits); rest = omega (arith, l .rest) }
 
-  -- a mass that the room does not hold passes the limit
-  pub left-none : room / weight < getD ms gas 0 → Above ≡ withinLimit ms
-  left-none h =
-      let t : room < weight * getD ms gas 0 = rw mul-comm (div-lt-iff-lt-mul p .0 h) in
+  -- a mass that it does not hold passes it
+  pub weighing-none : limit / weight < getD ms gas 0 → Above ≡ withinLimit ms
+  weighing-none h =
+      let t : limit < weight * getD ms gas 0 = rw mul-comm (div-lt-iff-lt-mul p .0 h) in
       let n = rw (← is) at (next-weighed ms gas g e) in
       sym (above-limit ms (omega (arith, l .rest)))
 
-pub left-last : {ms : List ℕ} {room gas : ℕ} → Left ms room gas → gasCount ≤ gas → Within (limit - room) ≡ withinLimit ms
+-- all gases are weighed
+weighing-all : {ms : List ℕ} {sum gas : ℕ} → Weighing ms sum gas → gasCount ≤ gas → sum ≡ equivalent ms
 unfolding weighed
-left-last {ms} {room} {gas} l h =
+weighing-all {ms} {sum} {gas} l h =
     let e : gas ≡ gasCount = omega (arith, l .gas-fits) in
-    let r : limit + 0 ≡ room + equivalent ms = rw e at (l .rest) in
-    let v : limit - room ≡ equivalent ms = omega arith in
-    ap Within v ∙ sym (within-limit ms (omega arith))
+    let r : sum + 0 ≡ equivalent ms = rw e at (l .rest) in
+    omega arith
 
-pub ruleset weighing = (needs, left-first, left-holds, left-fits, left-next, left-none, left-last)
+pub weighing-above : {ms : List ℕ} {sum gas : ℕ} → Weighing ms sum gas → gasCount ≤ gas → limit < sum → Above ≡ withinLimit ms
+weighing-above {ms} l h m = sym (above-limit ms (omega (arith, weighing-all l h)))
+
+pub weighing-within : {ms : List ℕ} {sum gas : ℕ} → Weighing ms sum gas → gasCount ≤ gas → sum ≤ limit → Within sum ≡ withinLimit ms
+weighing-within {ms} l h m = ap Within (weighing-all l h) ∙ sym (within-limit ms (omega (arith, weighing-all l h)))
+
+pub ruleset weighing = (needs, weighing-first, weighing-fits, weighing-sum-fits, weighing-next, weighing-none, weighing-above, weighing-within)

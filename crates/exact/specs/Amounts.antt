@@ -35,12 +35,6 @@ pub record Ranged (q content factor : ℕ) : Type 0 where
 abbrev pub perLine : ℕ
 perLine = largestContent * mostFactor
 
--- an amount that is a line's n
-pub record OfLine (n : ℕ) (a : Amount) : Type 0 where
-  pub is : value a ≡ n
-  pub part-fits : a .part < gram
-  pub fits : n ≤ perLine * gram
-
 -- so many more lines, and a rounding after them, keep the amount in 64 bits
 pub record Room (lines : ℕ) (a : Amount) : Type 0 where
   pub part-fits : a .part < gram

@@ -5,15 +5,13 @@ ghost use Prim.Native.Nat.{_+_, _*_, _≤_, _<_};
 ghost use lib.Dec.{ltb};
 ghost use lib.ListN.{getD};
 ghost use Rattle.meaning.specs.Masses.{warming, gasCount, mostFactors, mostFactor, rounded};
-ghost use Rattle.exact.specs.Amounts.{gram, value, scale, Ranged, OfLine, Room, Added, Subtracted};
+ghost use Rattle.exact.specs.Amounts.{gram, value, scale, Ranged, Room, Added, Subtracted};
 ghost use Rattle.exact.specs.Equivalents.{withinLimit};
 
 // The ten-billionths of a gram in a gram.
 const GRAM: u64 = 10000000000;
 
 pub const GASES: usize = 3;
-
-const SCALES: [u64; GASES] = [1, 1000, 1000000];
 
 // "CO2 + 25 CH4 + 298 N2O"
 const WARMING: [u64; GASES] = [1, 25, 298];
@@ -32,7 +30,11 @@ fn scale_of(gas: usize) -> u64
     requires { ⌜ gas < gasCount ⌝ }
     ensures { λ r. ⌜ r ≡ scale gas ⌝ }
 {
-    SCALES[gas]
+    match gas {
+        0 => 1,
+        1 => 1000,
+        _ => 1000000,
+    }
 }
 
 // A line's factor in ten-billionths of a gram, so that the amounts of all gases are on one scale.
@@ -51,36 +53,18 @@ fn product(a: u64, b: u64) -> u64
     a * b
 }
 
-// What a line comes to. Q times its content is parted by the gram before it is multiplied on, so that no product leaves 64 bits.
-fn line(q: u64, content: u64, factor: u64) -> Amount
-    requires { ⌜ Ranged q content factor ⌝ }
-    ensures { λ r. ⌜ OfLine (q * content * factor) r ⌝ }
-{
-    let p = product(q, content);
-    let high = product(factor, p / GRAM);
-    let low = product(p % GRAM, factor);
-    Amount {
-        whole: high + low / GRAM,
-        part: low % GRAM,
-    }
-}
-
-// The amount with what a line comes to.
+// The amount with what a line comes to. Q times its content is parted by the gram before it is multiplied on, so that no product
+// leaves 64 bits.
 pub fn add(a: Amount, q: u64, content: u64, factor: u64) -> Amount
     requires { ⌜ Room 1 a × Ranged q content factor ⌝ }
     ensures { λ r. ⌜ Added a (q * content * factor) r ⌝ }
 {
-    let b = line(q, content, factor);
-    let part = a.part + b.part;
-    if part < GRAM {
-        return Amount {
-            whole: a.whole + b.whole,
-            part,
-        };
-    }
+    let p = product(q, content);
+    let high = product(factor, p / GRAM);
+    let low = product(p % GRAM, factor) + a.part;
     Amount {
-        whole: a.whole + b.whole + 1,
-        part: part - GRAM,
+        whole: high + low / GRAM + a.whole,
+        part: low % GRAM,
     }
 }
 
@@ -136,20 +120,23 @@ fn warming_of(gas: usize) -> u64
     WARMING[gas]
 }
 
-// Gas by gas with the room that is left below the limit: a mass is multiplied only where its product is known to fit the room.
+// Gas by gas: a mass is multiplied only where its product is known to be within the limit, so that three products are within 64 bits.
 pub fn equivalent(masses: [u64; GASES]) -> Weighed
     ensures { λ r. ⌜ r ≡ withinLimit masses ⌝ }
 {
-    let mut room = LIMIT;
+    let mut sum: u64 = 0;
     let mut gas = 0;
     while gas < GASES {
         let weight = warming_of(gas);
         let mass = masses[gas];
-        if room / weight < mass {
+        if LIMIT / weight < mass {
             return Weighed::Above;
         }
-        room -= weight * mass;
+        sum += weight * mass;
         gas += 1;
     }
-    Weighed::Within(LIMIT - room)
+    if LIMIT < sum {
+        return Weighed::Above;
+    }
+    Weighed::Within(sum)
 }

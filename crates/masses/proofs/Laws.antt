@@ -44,9 +44,9 @@ unchanged a n scale e =
 changed : {a r : Amount} {n : ℕ} → Added a n r → More a n r
 changed x = record { is = x .is; roomy = λ lines r. room-next r x (omega arith) }
 
--- the room of a gas's sum
-pub room-of : {lines gas : ℕ} {s : Sums} → Roomy lines s → gas < gasCount → Room lines (getD (s .added) gas nothing)
-room-of {gas = gas} r h = r .added gas h
+-- what is left of the gases when two are excluded
+pub third-gas : {gas : ℕ} → gas < gasCount → (gas ≡ 0 → ⊥) → (gas ≡ 1 → ⊥) → gas ≡ 2
+third-gas l p q = omega arith
 
 -- a line by its term
 module _ (s : Sums) (l : Line) (t : Term) (factor : ℕ) (room : Roomy 1 s) (w : Weighs (λ q. contribution q (l .kind)) t) (e : factor ≡ t .factor * scale (t .gas)) where
@@ -73,21 +73,23 @@ module _ (s : Sums) (l : Line) (t : Term) (factor : ℕ) (room : Roomy 1 s) (w :
         taken = rw is (changed (rw n at x));
       }
 
-  -- one that adds: its own gas has its product, and no other
-  pub adding-counts : {more : Amount} → t .takes ≡ false → Added (getD (s .added) (t .gas) nothing) (l .quantity * t .content * factor) more
-      → Counts s l (record { added = set (s .added) (t .gas) more; taken = s .taken })
-  adding-counts {more} p x =
-      let is : contribution (l .quantity) (l .kind) ≡ contributed false (t .gas) product = said ∙ ap (λ (b : Bool). contributed b (t .gas) product) p in
+  -- one that adds, at the place of its gas: that gas has its product, and no other
+  pub adding-counts : {more : Amount} (place : ℕ) → t .takes ≡ false → t .gas ≡ place → Added (getD (s .added) place nothing) (l .quantity * t .content * factor) more
+      → Counts s l (record { added = set (s .added) place more; taken = s .taken })
+  adding-counts {more} place p at x =
+      let is : contribution (l .quantity) (l .kind) ≡ contributed false place product = said ∙ ap₂ (λ (b : Bool) (g : ℕ). contributed b g product) p at in
+      let n : l .quantity * t .content * factor ≡ product * scale place = scaled ∙ ap (λ (g : ℕ). product * scale g) at in
       record {
-        gases = length-set (s .added) (t .gas) more ∙ room .gases;
-        added = λ gas h. by gas h (ℕ-discrete gas (t .gas)) is;
-        taken = unchanged (s .taken) (takesFrom carbonDioxide (Good l)) (scale carbonDioxide) (rw is (same-zero (eqb (t .gas) carbonDioxide)));
+        gases = length-set (s .added) place more ∙ room .gases;
+        added = λ gas h. by gas h (ℕ-discrete gas place) is (rw n at x);
+        taken = unchanged (s .taken) (takesFrom carbonDioxide (Good l)) (scale carbonDioxide) (rw is (same-zero (eqb place carbonDioxide)));
       }
     where
-      by : (gas : ℕ) → gas < gasCount → Dec (gas ≡ t .gas) → contribution (l .quantity) (l .kind) ≡ contributed false (t .gas) product
-          → More (getD (s .added) gas nothing) (addsTo gas (Good l) * scale gas) (getD (set (s .added) (t .gas) more) gas nothing)
-      by gas h (yes q) is =
-          let b : t .gas < length (s .added) = omega (arith, w .gas, room .gases) in
-          rw (q, is, eq-eqb (t .gas) (t .gas) refl, getD-set-same (s .added) (t .gas) more nothing b) (changed (rw scaled at x))
-      by gas h (no q) is =
-          rw (is, ne-eqb (t .gas) gas (λ z. q (sym z)), getD-set-other (s .added) (t .gas) gas more nothing q) (unchanged (getD (s .added) gas nothing) 0 (scale gas) refl)
+      by : (gas : ℕ) → gas < gasCount → Dec (gas ≡ place) → contribution (l .quantity) (l .kind) ≡ contributed false place product
+          → Added (getD (s .added) place nothing) (product * scale place) more
+          → More (getD (s .added) gas nothing) (addsTo gas (Good l) * scale gas) (getD (set (s .added) place more) gas nothing)
+      by gas h (yes q) is x =
+          let b : place < length (s .added) = omega (arith, room .gases) in
+          rw (q, is, eq-eqb place place refl, getD-set-same (s .added) place more nothing b) (changed x)
+      by gas h (no q) is x =
+          rw (is, ne-eqb place gas (λ z. q (sym z)), getD-set-other (s .added) place gas more nothing q) (unchanged (getD (s .added) gas nothing) 0 (scale gas) refl)

@@ -87,8 +87,12 @@ fn with_line(sums: Sums, line: Line) -> Sums
         let more = exact::add(taken, quantity, content, factor);
         return Sums { added, taken: more };
     }
-    let before = added[gas];
-    added[gas] = exact::add(before, quantity, content, factor);
+    // Each place is a literal, so that the sums stay in registers.
+    match gas {
+        0 => added[0] = exact::add(added[0], quantity, content, factor),
+        1 => added[1] = exact::add(added[1], quantity, content, factor),
+        _ => added[2] = exact::add(added[2], quantity, content, factor),
+    }
     Sums { added, taken }
 }
 

@@ -42,6 +42,10 @@ ranged l e h =
     largest true = omega arith
     largest false = omega arith
 
+-- a test of a number that is known is the test of that number
+pub known : {k j : ℕ} (n : ℕ) → k ≡ j → eqb k n ≡ eqb j n
+known n e = ap (λ (m : ℕ). eqb m n) e
+
 -- a share of a content, by a factor, is one product
 module _ {content share factor : ℕ} (h : (content ≤ largestContent) × (share ≤ whole) × (factor ≤ carbonFactor)) where
   share-fits : share * factor ≤ mostFactor

@@ -3,6 +3,7 @@ ghost use mathlib.Core.Bool.{true, false};
 ghost use mathlib.Core.Path.{_≡_};
 ghost use Prim.Native.Nat.{_*_, _≤_, _<_};
 ghost use lib.ListN.{getD};
+ghost use Rattle.meaning.specs.declared.Decoded.the-variants.{Bad};
 ghost use Rattle.meaning.specs.Methods.{listed, whole, largestContent, carbonates, acids, balanced, mostContent, inRange, given, fuel, flare, metals, petrochemical, cement, nitricAcid, byMethod, decoded};
 ghost use Rattle.meaning.specs.Masses.{gasCount, carbonDioxide, co2OfCarbon, mostFactors, contribution};
 ghost use Rattle.methods.specs.Ranges.{Entry, InRanges, KindFits, LineFits, carbonFactor, mostAcid};
@@ -56,10 +57,10 @@ pub fn acid_factor(parameter: u64) -> u64
     0
 }
 
-// A line of the kind where the test holds, and else what the later kinds make of it.
-fn line_if(line: RawLine, holds: bool, kind: Kind, other: Decoded) -> Decoded
-    requires { ⌜ InRanges line × KindFits kind × LineFits other ⌝ }
-    ensures { λ r. ⌜ (r ≡ given holds line kind other) × LineFits r ⌝ }
+// A line of the kind where the test holds, and else a bad one.
+fn line_if(line: RawLine, holds: bool, kind: Kind) -> Decoded
+    requires { ⌜ InRanges line × KindFits kind ⌝ }
+    ensures { λ r. ⌜ (r ≡ given holds line kind Bad) × LineFits r ⌝ }
 {
     if holds {
         return Decoded::Good(Line {
@@ -67,7 +68,7 @@ fn line_if(line: RawLine, holds: bool, kind: Kind, other: Decoded) -> Decoded
             kind,
         });
     }
-    other
+    Decoded::Bad
 }
 
 fn decode_fuel(line: RawLine) -> Decoded
@@ -83,7 +84,6 @@ fn decode_fuel(line: RawLine) -> Decoded
             carbon: line.a,
             oxidised: line.b,
         },
-        Decoded::Bad,
     )
 }
 
@@ -91,11 +91,10 @@ fn decode_flare(line: RawLine) -> Decoded
     requires { ⌜ InRanges line ⌝ }
     ensures { λ r. ⌜ (r ≡ flare line) × LineFits r ⌝ }
 {
-    let gas_unit = (1 <= line.unit) & (line.unit <= 2);
-    let burned = (line.kind == 1) & gas_unit & (line.code == 0);
-    let escaped = (line.kind == 2) & gas_unit & (line.code == 0);
+    let kind = line.kind;
     let content = line.a;
     let unburned = line.b;
+    let fits = (1 <= line.unit) & (line.unit <= 2) & (line.code == 0);
     let carbon = Kind::FlareCarbon {
         carbon: content,
         unburned,
@@ -104,8 +103,11 @@ fn decode_flare(line: RawLine) -> Decoded
         methane: content,
         unburned,
     };
-    let second = line_if(line, escaped, methane, Decoded::Bad);
-    line_if(line, burned, carbon, second)
+    match kind {
+        1 => line_if(line, fits, carbon),
+        2 => line_if(line, fits, methane),
+        _ => Decoded::Bad,
+    }
 }
 
 // What the carbon balances of methods 3 and 4 ask of each line: any unit, code 0, B whole.
@@ -122,14 +124,13 @@ fn decode_metals(line: RawLine) -> Decoded
     let kind = line.kind;
     let carbon = line.a;
     let fits = is_balanced(line);
-    let charged = (kind == 10) & fits;
-    let drawn = (kind == 11) & fits;
-    let opening = (kind == 12) & fits;
-    let closing = (kind == 13) & fits;
-    let fourth = line_if(line, closing, Kind::ClosingStock { carbon }, Decoded::Bad);
-    let third = line_if(line, opening, Kind::OpeningStock { carbon }, fourth);
-    let second = line_if(line, drawn, Kind::MetalOut { carbon }, third);
-    line_if(line, charged, Kind::MetalIn { carbon }, second)
+    match kind {
+        10 => line_if(line, fits, Kind::MetalIn { carbon }),
+        11 => line_if(line, fits, Kind::MetalOut { carbon }),
+        12 => line_if(line, fits, Kind::OpeningStock { carbon }),
+        13 => line_if(line, fits, Kind::ClosingStock { carbon }),
+        _ => Decoded::Bad,
+    }
 }
 
 fn decode_petrochemical(parameter: u64, line: RawLine) -> Decoded
@@ -139,43 +140,48 @@ fn decode_petrochemical(parameter: u64, line: RawLine) -> Decoded
     let kind = line.kind;
     let carbon = line.a;
     let fits = is_balanced(line);
-    let feed = (kind == 10) & fits;
-    let product = (kind == 11) & fits;
-    let by_product = (kind == 14) & fits & ((parameter == 2) | (parameter == 5));
-    let third = line_if(line, by_product, Kind::ByProduct { carbon }, Decoded::Bad);
-    let second = line_if(line, product, Kind::Product { carbon }, third);
-    line_if(line, feed, Kind::Feed { carbon }, second)
+    let by_product = fits & ((parameter == 2) | (parameter == 5));
+    match kind {
+        10 => line_if(line, fits, Kind::Feed { carbon }),
+        11 => line_if(line, fits, Kind::Product { carbon }),
+        14 => line_if(line, by_product, Kind::ByProduct { carbon }),
+        _ => Decoded::Bad,
+    }
 }
 
 fn decode_cement(line: RawLine) -> Decoded
     requires { ⌜ InRanges line ⌝ }
     ensures { λ r. ⌜ (r ≡ cement line) × LineFits r ⌝ }
 {
-    let listed = (1 <= line.code) & (line.code <= 4);
-    let charged = (line.kind == 20) & (line.unit == 1) & listed;
-    let lost = (line.kind == 21) & (line.unit == 1) & listed;
-    let other = (line.kind == 22) & (line.unit == 1) & (line.code == 0) & (line.b == WHOLE);
-    let content = line.a;
+    let kind = line.kind;
+    let share = line.a;
     let calcined = line.b;
-    let factor = carbonate_factor(line.code);
-    let carbonate = Kind::CarbonateCharged {
-        share: content,
-        factor,
-        calcined,
-    };
-    let dust = Kind::KilnDust {
-        share: content,
-        factor,
-        calcined,
-    };
-    let third = line_if(
-        line,
-        other,
-        Kind::OtherCarbon { carbon: content },
-        Decoded::Bad,
-    );
-    let second = line_if(line, lost, dust, third);
-    line_if(line, charged, carbonate, second)
+    let listed = (1 <= line.code) & (line.code <= 4);
+    match kind {
+        20 => {
+            let factor = carbonate_factor(line.code);
+            let charged = Kind::CarbonateCharged {
+                share,
+                factor,
+                calcined,
+            };
+            line_if(line, (line.unit == 1) & listed, charged)
+        }
+        21 => {
+            let factor = carbonate_factor(line.code);
+            let dust = Kind::KilnDust {
+                share,
+                factor,
+                calcined,
+            };
+            line_if(line, (line.unit == 1) & listed, dust)
+        }
+        22 => {
+            let fits = (line.unit == 1) & (line.code == 0) & (line.b == WHOLE);
+            line_if(line, fits, Kind::OtherCarbon { carbon: line.a })
+        }
+        _ => Decoded::Bad,
+    }
 }
 
 fn decode_nitric_acid(parameter: u64, line: RawLine) -> Decoded
@@ -188,7 +194,7 @@ fn decode_nitric_acid(parameter: u64, line: RawLine) -> Decoded
         & (line.a == 0)
         & (line.b == 0);
     let factor = acid_factor(parameter);
-    line_if(line, made, Kind::NitricAcid { factor }, Decoded::Bad)
+    line_if(line, made, Kind::NitricAcid { factor })
 }
 
 fn decode_by_method(method: u64, parameter: u64, line: RawLine) -> Decoded

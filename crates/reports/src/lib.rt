@@ -80,17 +80,17 @@ fn is_equivalent_wrong(report: &[u8], at: usize) -> bool
     stated != right
 }
 
-// Whether entry i breaks a rule, where the entry before it has a number.
+// Whether entry i breaks a rule, where the entry before it has a number. The method and the zeros behind it are one number, which is a method
+// only where they are zeros.
 fn is_entry_wrong(report: &[u8], i: usize, before: u64) -> bool
     requires { ⌜ (reportLength (i + 1) ≤ length (now report)) × (before ≡ numberBefore (now report) i) ⌝ }
     ensures { λ r. ⌜ r ≡ wrongEntry (now (report .entry)) i ⌝ }
 {
     let at = ENTRIES_AT + ENTRY_LENGTH * i;
     let number = fields::u32_at(report, at);
-    let method = fields::u8_at(report, at + 4);
-    let zeros = fields::u24_at(report, at + 5);
+    let method_and_zeros = fields::u32_at(report, at + 4);
     let unequal = is_equivalent_wrong(report, at);
-    (number <= before) | !((1 <= method) & (method <= 6)) | (zeros != 0) | unequal
+    (number <= before) | !((1 <= method_and_zeros) & (method_and_zeros <= 6)) | unequal
 }
 
 // "totals that are the sums"

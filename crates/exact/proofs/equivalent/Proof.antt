@@ -1,15 +1,15 @@
 use Prim.Native.Nat.{_-_}
 use borrow.Author.Needs.{needs}
 use Rattle.meaning.specs.Masses.{gasCount}
-use Rattle.exact.proofs.Equivalents.{Left, weighing}
+use Rattle.exact.proofs.Equivalents.{Weighing, weighing}
 use Rattle.exact.proofs.equivalent.Statement.{statement}
 use Rattle.exact.proofs.equivalent.Tie as tie
 
 abbrev Inv-loop : tie.InvT-loop
-Inv-loop masses room₀ gas₀ room gas = Left masses room gas
+Inv-loop masses sum₀ gas₀ sum gas = Weighing masses sum gas
 
 abbrev μ-loop : tie.MeasureT-loop
-μ-loop masses room₀ gas₀ room gas = gasCount - gas
+μ-loop masses sum₀ gas₀ sum gas = gasCount - gas
 
 pub equivalent-spec : {M : Type 1} → statement M
 equivalent-spec =
@@ -18,6 +18,4 @@ equivalent-spec =
     (search needs) (search needs) (search needs) (search needs)
     (λ c. search weighing) (λ c. search weighing) (λ c. search weighing)
     (search needs) (search needs)
-    (λ c. search weighing)
-    (search needs)
-    (λ c. search weighing))
+    (λ c. search weighing) (λ c. search weighing) (λ c. search weighing))

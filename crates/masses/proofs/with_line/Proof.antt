@@ -1,5 +1,6 @@
+use native.Mathlib.Omega.{arith}
 use borrow.Author.Needs.{needs}
-use Rattle.masses.proofs.Laws.{room-of, taking-counts, adding-counts}
+use Rattle.masses.proofs.Laws.{third-gas, taking-counts, adding-counts}
 use Rattle.masses.proofs.with_line.Statement.{statement}
 use Rattle.masses.proofs.with_line.Tie as tie
 
@@ -12,8 +13,14 @@ with-line-spec =
     (λ c κs. search needs)
     (λ c. search (needs, taking-counts))
     (search needs)
+    (λ c κs. (c .before .before .before .before .before .before .before .pre .0 .added 0 (omega arith), search needs))
     (search needs)
-    (λ c κs. search (needs, room-of))
+    (search needs)
+    (λ c κs. (c .before .before .before .before .before .before .before .pre .0 .added 1 (omega arith), search needs))
     (search needs)
     (search needs)
-    (λ c. search (needs, adding-counts)))
+    (λ c κs. (c .before .before .before .before .before .before .before .pre .0 .added 2 (omega arith), search needs))
+    (search needs)
+    (λ c. search (needs, adding-counts))
+    (λ c. search (needs, adding-counts))
+    (λ c. search (needs, adding-counts, third-gas)))

@@ -13,6 +13,4 @@ is-entry-wrong-spec =
     (search needs)
     (search needs)
     (search needs)
-    (search needs)
-    (search needs)
     (λ c. search (needs, entry-judged)))
