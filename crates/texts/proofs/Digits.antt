@@ -1,141 +1,170 @@
--- Decimal numbers: how many digits they have, and how they are written. Assumes nothing.
-use mathlib.Core.List.{List, [], _∷_, _++_, append-assoc}
+-- Decimal numbers: how many digits they have, and how they are written from the last to the first. Assumes nothing.
+use mathlib.Core.List.{List, [], _∷_, _++_, append-assoc, append-nil}
 use mathlib.Core.Path.{_≡_, refl, sym, ap, _∙_}
 use Prim.Native.Nat.{ℕ, zero, suc, _+_, _*_, _-_, _/_, _%_, _^_, _≤_, _<_}
-use native.Mathlib.Nat.{pow-suc, pow-le-pow-right}
+use native.Mathlib.Nat.{pow-suc}
 use native.Mathlib.Decide.{decLt}
+use native.Mathlib.Numerals.{add-one}
 use native.Mathlib.Omega.{arith}
 use borrow.Author.Needs.{needs}
 use borrow.Author.Tests.{lt-ltb, le-ltb}
-use lib.ListN.{length, drop, set, length-append, length-set}
-use lib.Seq.{drop-cons, take-set-le, drop-set-lt, getD-set-same}
+use lib.ListN.{length, take, drop, set, length-append}
+use lib.Seq.{set-split, drop-at, length-take-le}
 use mir.Syntax.{w64}
 use mir.Val.{Fits}
 use Rattle.basis.specs.Bytes.{splice, Written}
-use Rattle.basis.proofs.Bytes.{splice-none}
+use Rattle.basis.proofs.Bytes.{splice-none, length-written, read-before}
 use Rattle.meaning.specs.Text.{digit, digits, decimal}
 use Rattle.meaning.proofs.Decimals.{decimal-few as few-digits}
-use Rattle.texts.specs.Digits.{spelled, Counted}
-
-pub length-spelled : (k n : ℕ) → length (spelled k n) ≡ k
-unfolding spelled
-length-spelled zero n = refl
-length-spelled (suc k) n = rw (length-append, length-spelled k (n / 10)) (omega arith)
+use Rattle.texts.specs.Digits.{Counted, Ends, Put}
 
 -- a number below ten is one digit, and a larger one is a digit behind those of its tenth
-one-digit : (fuel n : ℕ) → n < 10 → digits fuel n ≡ spelled 1 n
-unfolding digits spelled
-one-digit zero n l = let e : n % 10 ≡ n = omega arith in rw e
-one-digit (suc fuel) n l = let e : n % 10 ≡ n = omega arith in rw (lt-ltb n 10 l, e)
+one-digit : (fuel n : ℕ) → n < 10 → digits fuel n ≡ digit n ∷ []
+unfolding digits
+one-digit zero n l = refl
+one-digit (suc fuel) n l = rw (lt-ltb n 10 l)
 
 pub more-digits : (fuel n : ℕ) → 10 ≤ n → digits (suc fuel) n ≡ digits fuel (n / 10) ++ (digit (n % 10) ∷ [])
 unfolding digits
 more-digits fuel n l = rw (le-ltb n 10 l)
 
-tens-above-zero : (k : ℕ) → 0 < 10 ^ k
-tens-above-zero zero = omega arith
-tens-above-zero (suc k) = rw (pow-suc 10 k) (omega (arith, tens-above-zero k))
+-- with fuel enough, more makes no difference
+fuel-enough : (f g n : ℕ) → n ≤ f → n ≤ g → digits f n ≡ digits g n
+fuel-enough zero g n p q = one-digit zero n (omega arith) ∙ sym (one-digit g n (omega arith))
+fuel-enough (suc f) zero n p q = one-digit (suc f) n (omega arith) ∙ sym (one-digit zero n (omega arith))
+fuel-enough (suc f) (suc g) n p q = by (decLt n 10) (λ l. fuel-enough f g (n / 10) (omega arith) (omega arith))
+  where
+    by : Dec (n < 10) → (10 ≤ n → digits f (n / 10) ≡ digits g (n / 10)) → digits (suc f) n ≡ digits (suc g) n
+    by (yes l) h = one-digit (suc f) n l ∙ sym (one-digit (suc g) n l)
+    by (no l) h = rw (more-digits f n (omega arith), more-digits g n (omega arith), h (omega arith))
 
--- with fuel enough, a number of k + 1 digits is those
-digits-spelled : (k fuel n : ℕ) → n ≤ fuel → n < 10 ^ suc k → (0 < k → 10 ^ k ≤ n) → digits fuel n ≡ spelled (suc k) n
-unfolding spelled
-digits-spelled zero fuel n f l h = one-digit fuel n (omega (arith, rw (pow-suc 10 0) at l))
-digits-spelled (suc k) zero n f l h = absurd (omega (arith, h (omega arith), tens-above-zero (suc k)))
-digits-spelled (suc k) (suc fuel) n f l h =
-    let low : 10 ^ suc k ≤ n = h (omega arith) in
-    let e : 10 ^ suc k ≡ 10 ^ k * 10 = pow-suc 10 k in
-    let g : 10 ^ suc (suc k) ≡ 10 ^ suc k * 10 = pow-suc 10 (suc k) in
-    let p : 0 < 10 ^ k = tens-above-zero k in
-    rw (more-digits fuel n (omega arith), digits-spelled k fuel (n / 10) (omega arith) (omega arith) (λ q. omega arith))
+decimal-one : (n : ℕ) → n < 10 → decimal n ≡ digit n ∷ []
+unfolding decimal
+decimal-one n l = one-digit n n l
+
+decimal-more : (n : ℕ) → 10 ≤ n → decimal n ≡ decimal (n / 10) ++ (digit (n % 10) ∷ [])
+unfolding decimal
+decimal-more n l =
+    fuel-enough n (suc n) n (omega arith) (omega arith) ∙ more-digits n n l
+    ∙ ap (λ (ds : List ℕ). ds ++ (digit (n % 10) ∷ [])) (fuel-enough n (n / 10) (n / 10) (omega arith) (omega arith))
 
 -- no number of 64 bits has more than twenty digits
 pub decimal-few : (n : ℕ) → Fits w64 n → length (decimal n) ≤ 20
 decimal-few n f = few-digits 19 n (omega (arith, f .fits))
 
--- n has k digits or more, and power is the least number that has k
-pub record Counting (n power k : ℕ) : Type 0 where
-  pub some : 1 ≤ k
-  pub few : k ≤ 20
-  pub positive : 0 < power
-  pub is : power ≡ 10 ^ (k - 1)
-  pub above : 1 < k → power ≤ n
+-- one digit, one more, and four more
+pub count-one : (n : ℕ) → n < 10 → 1 ≡ length (decimal n)
+count-one n l = sym (ap length (decimal-one n l))
 
-pub counting-one : (n : ℕ) → Counting n 1 1
-counting-one n = record { some = omega arith; few = omega arith; positive = omega arith; is = refl; above = λ l. absurd (omega arith) }
+count-next : (n : ℕ) → 10 ≤ n → length (decimal n) ≡ length (decimal (n / 10)) + 1
+count-next n l = ap length (decimal-more n l) ∙ length-append (decimal (n / 10)) (digit (n % 10) ∷ [])
 
-module _ {n power k : ℕ} (c : Counting n power k) where
-  next-power : power * 10 ≡ 10 ^ k
-  next-power =
-      let q : suc (k - 1) ≡ k = omega (arith, c .some) in
-      rw (c .is, ← pow-suc 10 (k - 1), q)
+pub count-two : (n : ℕ) → 10 ≤ n → n < 100 → 2 ≡ length (decimal n)
+count-two n l h = omega (arith, count-next n l, count-one (n / 10) (omega arith))
 
-  module _ (h : power ≤ n / 10) (f : Fits w64 n) where
-    pub counting-fits : Fits w64 (power * 10)
-    counting-fits = record { fits = omega (arith, f .fits) }
+pub count-three : (n : ℕ) → 100 ≤ n → n < 1000 → 3 ≡ length (decimal n)
+count-three n l h = omega (arith, count-next n (omega arith), count-two (n / 10) (omega arith) (omega arith))
 
-    still-few : k ≤ 19
-    still-few = by (decLt k 20)
-      where
-        by : Dec (k < 20) → k ≤ 19
-        by (yes l) = omega arith
-        by (no l) = absurd (omega (arith, f .fits, next-power, pow-le-pow-right {n = 10} (omega arith) {i = 20} {j = k} (omega arith)))
+pub count-four : (n : ℕ) → 1000 ≤ n → n < 10000 → 4 ≡ length (decimal n)
+count-four n l h = omega (arith, count-next n (omega arith), count-three (n / 10) (omega arith) (omega arith))
 
-    pub counting-more : Counting n (power * 10) (k + 1)
-    counting-more =
-        let q : k + 1 - 1 ≡ k = omega arith in
-        record { some = omega arith; few = omega (arith, still-few); positive = omega (arith, c .positive); is = rw q next-power; above = λ l. omega arith }
+four-more : (n : ℕ) → 10000 ≤ n → length (decimal n) ≡ length (decimal (n / 10000)) + 4
+four-more n l =
+    let e : n / 10 / 10 / 10 / 10 ≡ n / 10000 = omega arith in
+    let c = rw e at (count-next (n / 10 / 10 / 10) (omega arith)) in
+    omega (arith, count-next n (omega arith), count-next (n / 10) (omega arith), count-next (n / 10 / 10) (omega arith))
 
-  pub counting-all : n / 10 < power → Counted n k
-  unfolding decimal
-  counting-all h =
-      let q : suc (k - 1) ≡ k = omega (arith, c .some) in
-      let l : n < 10 ^ suc (k - 1) = rw q (omega (arith, next-power)) in
-      let m : 0 < k - 1 → 10 ^ (k - 1) ≤ n = λ s. rw (← c .is) (c .above (omega arith)) in
-      let e : decimal n ≡ spelled k n = rw q at (digits-spelled (k - 1) n n (omega arith) l m) in
-      record { is = e; count = sym (ap length e ∙ length-spelled k n); few = c .few }
+pub ruleset few = (needs, count-one, count-two, count-three, count-four)
 
-pub ruleset counting = (needs, counting-one, counting-fits, counting-more, counting-all)
+-- k digits are counted, and those of rest are left
+pub record Counting (n rest k : ℕ) : Type 0 where
+  pub sum : k + length (decimal rest) ≡ length (decimal n)
+  pub most : length (decimal n) ≤ 20
 
--- a byte behind what is still to be written
-splice-last : (b : List ℕ) (at v : ℕ) (ys : List ℕ) → at + length ys < length b → splice (set b (at + length ys) v) at ys ≡ splice b at (ys ++ (v ∷ []))
+pub counted-one : (n : ℕ) → n < 10 → Counted n 1
+counted-one n l = record { count = count-one n l; few = omega arith }
+
+pub counting-none : (n : ℕ) → Fits w64 n → Counting n n 0
+counting-none n f = record { sum = omega arith; most = decimal-few n f }
+
+module _ {n rest k : ℕ} (c : Counting n rest k) where
+  pub counting-more : 10000 ≤ rest → Counting n (rest / 10000) (k + 4)
+  counting-more h = record { sum = omega (arith, c .sum, four-more rest h); most = c .most }
+
+  pub counting-all : {r : ℕ} → r ≡ length (decimal rest) → Counted n (k + r)
+  counting-all e = record { count = omega (arith, c .sum); few = omega (arith, c .sum, c .most) }
+
+pub ruleset counting = (needs, counted-one, counting-none, counting-more, counting-all)
+
+-- a byte that is stored is written
+pub written-one : (xs : List ℕ) (at x : ℕ) → at < length xs → Written xs at (x ∷ []) (set xs at x)
 unfolding splice
-splice-last b at v ys h =
-    let p = at + length ys in
-    let s : p < length (set b p v) = rw (length-set b p v) h in
-    let d : drop p (set b p v) ≡ v ∷ drop (suc p) b =
-    rw (drop-cons (set b p v) p 0 s, getD-set-same b p v 0 h, drop-set-lt (suc p) b p v (omega arith)) in
-    let q : suc p ≡ at + length (ys ++ (v ∷ [])) = rw length-append (omega arith) in
-    rw (take-set-le at b p v (omega arith), d, q) (simp append-assoc)
+written-one xs at x h = record { fits = omega arith; is = simp (set-split, add-one, append-assoc) }
 
--- i of the digits of n are still to be written, those of rest
-pub record Spelling (b₀ : List ℕ) (at n k : ℕ) (b : List ℕ) (i rest : ℕ) : Type 0 where
-  pub low : i ≤ k
-  pub fits : at + k ≤ length b₀
-  pub kept : length b ≡ length b₀
-  pub whole : splice b at (spelled i rest) ≡ splice b₀ at (spelled k n)
+-- what is written before something that was written already makes one with it
+pub written-before : {xs ys zs us vs : List ℕ} {at n : ℕ} → Written xs n us zs → Written zs at ys vs → n ≡ at + length ys → Written xs at (ys ++ us) vs
+unfolding splice
+written-before {xs} {ys} {zs} {us} {vs} {at} {n} w v e =
+    let h : length (take n xs) ≡ n = length-take-le n xs (omega (arith, w .fits)) in
+    let d : drop n zs ≡ us ++ drop (n + length us) xs = rw (w .is, append-assoc) (drop-at (take n xs) (us ++ drop (n + length us) xs) n h) in
+    let m : n + length us ≡ at + length (ys ++ us) = rw length-append (omega arith) in
+    record {
+      fits = rw length-append (omega (arith, w .fits));
+      is = v .is ∙ rw (read-before w 0 at (omega arith), ← e, d, m) (simp append-assoc);
+    }
 
-pub spelling-none : (b : List ℕ) (at n k : ℕ) → at + k ≤ length b → Spelling b at n k b k n
-spelling-none b at n k h = record { low = omega arith; fits = h; kept = refl; whole = refl }
+pub put-none : (xs : List ℕ) (end : ℕ) → end ≤ length xs → Put xs end [] xs end
+put-none xs end h = record { written = record { fits = omega arith; is = sym (splice-none xs end) }; ends = omega arith }
 
-module _ {b₀ : List ℕ} {at n k : ℕ} {b : List ℕ} {i rest : ℕ} (s : Spelling b₀ at n k b i rest) where
-  pub spelling-more : 0 < i → Spelling b₀ at n k (set b (at + (i - 1)) (48 + rest % 10)) (i - 1) (rest / 10)
-  unfolding spelled
-  spelling-more l =
-      let q : i ≡ suc (i - 1) = omega arith in
-      let z : length (spelled (i - 1) (rest / 10)) ≡ i - 1 = length-spelled (i - 1) (rest / 10) in
-      let w : splice b at (spelled (i - 1) (rest / 10) ++ (digit (rest % 10) ∷ [])) ≡ splice b₀ at (spelled k n) = rw q at (s .whole) in
-      let m : at + length (spelled (i - 1) (rest / 10)) < length b = omega (arith, s .low, s .fits, s .kept) in
+pub put-before : {xs ys zs us vs : List ℕ} {at n end : ℕ} → Put xs n us zs end → Put zs at ys vs n → Put xs at (ys ++ us) vs end
+put-before {ys = ys} {us = us} w v =
+    record { written = written-before (w .written) (v .written) (v .ends); ends = rw length-append (omega (arith, w .ends, v .ends)) }
+
+-- the digits behind those of rest are written from p on
+pub record Spelling (b₀ : List ℕ) (end n : ℕ) (b : List ℕ) (p rest : ℕ) : Type 0 where
+  pub room : length (decimal n) ≤ end
+  pub done : List ℕ
+  pub put : Put b₀ p done b end
+  pub whole : decimal rest ++ done ≡ decimal n
+
+pub spelling-none : (b : List ℕ) (end n : ℕ) → Ends b (decimal n) end → Spelling b end n b end n
+spelling-none b end n h = record { room = h .short; done = []; put = put-none b end (h .within); whole = append-nil (decimal n) }
+
+module _ {b₀ : List ℕ} {end n : ℕ} {b : List ℕ} {p rest : ℕ} (s : Spelling b₀ end n b p rest) where
+  pub spelling-kept : length b ≡ length b₀
+  spelling-kept = length-written (s .put .written)
+
+  left : length (decimal rest) ≤ p
+  left = omega (arith, s .room, s .put .ends, ap length (s .whole), length-append (decimal rest) (s .done))
+
+  pub spelling-at : 0 < p → p - 1 < length b
+  spelling-at l = omega (arith, spelling-kept, s .put .written .fits, s .put .ends)
+
+  stored : (v : ℕ) → 0 < p → Put b (p - 1) (v ∷ []) (set b (p - 1) v) p
+  stored v l =
       record {
-        low = omega (arith, s .low);
-        fits = s .fits;
-        kept = length-set b (at + (i - 1)) (48 + rest % 10) ∙ s .kept;
-        whole = (rw z at (splice-last b at (48 + rest % 10) (spelled (i - 1) (rest / 10)) m)) ∙ w;
+        written = written-one b (p - 1) v (spelling-at l);
+        ends = omega arith;
       }
 
-  pub spelling-all : i ≤ 0 → Written b₀ at (spelled k n) b
-  unfolding spelled
-  spelling-all h =
-      let z : i ≡ 0 = omega arith in
-      record { fits = rw (length-spelled k n) (s .fits); is = sym (splice-none b at) ∙ (rw z at (s .whole)) }
+  module _ (h : 10 ≤ rest) where
+    pub spelling-some : 0 < p
+    spelling-some = omega (arith, left, count-next rest h)
 
-pub ruleset spelling = (needs, spelling-none, spelling-more, spelling-all)
+    pub spelling-more : Spelling b₀ end n (set b (p - 1) (48 + rest % 10)) (p - 1) (rest / 10)
+    spelling-more =
+        record {
+          room = s .room;
+          done = digit (rest % 10) ∷ s .done;
+          put = put-before (s .put) (stored (digit (rest % 10)) spelling-some);
+          whole = sym (append-assoc (decimal (rest / 10)) (digit (rest % 10) ∷ []) (s .done)) ∙ ap (λ (ds : List ℕ). ds ++ s .done) (sym (decimal-more rest h)) ∙ s .whole;
+        }
+
+  module _ (h : rest < 10) where
+    pub spelling-last : 0 < p
+    spelling-last = omega (arith, left, count-one rest h)
+
+    pub spelling-all : Put b₀ (p - 1) (decimal n) (set b (p - 1) (48 + rest)) end
+    spelling-all = rw (sym (s .whole) ∙ ap (λ (ds : List ℕ). ds ++ s .done) (decimal-one rest h)) (put-before (s .put) (stored (digit rest) spelling-last))
+
+pub ruleset spelling = (needs, spelling-none, spelling-kept, spelling-at, spelling-some, spelling-more, spelling-last, spelling-all)

@@ -1,91 +1,73 @@
 -- Fields and lines as they are written, and how long they are. Assumes nothing.
 use mathlib.Core.List.{List, [], _∷_, _++_, append-assoc}
-use mathlib.Core.Path.{_≡_, refl, sym, ap, _∙_}
-use Prim.Native.Nat.{ℕ, suc, _+_, _≤_, _<_}
-use native.Mathlib.Numerals.{add-one}
+use mathlib.Core.Path.{_≡_, refl, ap, subst, _∙_}
+use Prim.Native.Nat.{ℕ, _+_, _-_, _≤_, _<_}
 use native.Mathlib.Omega.{arith}
 use mir.Syntax.{w32, w64}
 use mir.Val.{Fits}
 use borrow.Author.Needs.{needs}
-use lib.ListN.{length, getD, drop, set, length-append, drop-of-length-le}
-use lib.Seq.{set-split, drop-cons}
+use lib.ListN.{length, set, length-append, length-set}
 use Rattle.basis.proofs.Lists.{counted}
-use Rattle.basis.specs.Bytes.{ascii, splice, Written}
+use Rattle.basis.specs.Bytes.{ascii, Written}
 use Rattle.basis.proofs.Bytes.{written-then, length-written}
 use Rattle.meaning.specs.Text.{decimal, textLine, refusedLine}
-use Rattle.fields.proofs.Laws.{Writing, writing-none, writing-then, writing-last}
-use Rattle.texts.specs.Digits.{spelled, Counted, field, acceptedLine, Put, Fronted}
-use Rattle.texts.proofs.Digits.{length-spelled, decimal-few}
-
--- a byte that is stored is written
-written-one : (xs : List ℕ) (at x : ℕ) → at < length xs → Written xs at (x ∷ []) (set xs at x)
-unfolding splice
-written-one xs at x h = record { fits = omega arith; is = simp (set-split, add-one, append-assoc) }
+use Rattle.texts.specs.Digits.{Counted, field, pair, acceptedLine, Ends, Put, Fronted}
+use Rattle.texts.proofs.Digits.{decimal-few, written-one, put-before}
 
 pub length-field : (n after : ℕ) → length (field n after) ≡ length (decimal n) + 1
 unfolding field
 length-field n after = length-append (decimal n) (after ∷ [])
 
-module _ {n k : ℕ} (at : ℕ) (xs : List ℕ) (c : Counted n k) (h : at + (length (decimal n) + 1) ≤ length xs) where
-  pub field-room : at + k ≤ length xs
-  field-room = omega (arith, c .count)
+-- a field up to a place: the byte behind the number, and its digits
+module _ (n after end : ℕ) (xs : List ℕ) (h : Ends xs (field n after) end) where
+  pub field-some : 0 < end
+  field-some = omega (arith, h .short, length-field n after)
 
-  pub field-last : {ys : List ℕ} → Written xs at (spelled k n) ys → at + k < length ys
-  field-last w = omega (arith, c .count, length-written w)
+  pub field-at : end - 1 < length xs
+  field-at = omega (arith, field-some, h .within)
 
-  pub field-put : (after : ℕ) {ys : List ℕ} → Written xs at (spelled k n) ys → Put xs at (field n after) (set ys (at + k) after) (at + k + 1)
+  pub field-room : Ends (set xs (end - 1) after) (decimal n) (end - 1)
+  field-room = record { short = omega (arith, h .short, length-field n after); within = rw length-set (omega (arith, h .within)) }
+
+  pub field-kept : {r : ℕ} {ys : List ℕ} → Put (set xs (end - 1) after) r (decimal n) ys (end - 1) → length ys ≡ length xs
+  field-kept w = length-written (w .written) ∙ length-set xs (end - 1) after
+
+  pub field-put : {r : ℕ} {ys : List ℕ} → Put (set xs (end - 1) after) r (decimal n) ys (end - 1) → Put xs r (field n after) ys end
   unfolding field
-  field-put after {ys} w =
-      let q : at + k ≡ at + length (spelled k n) = rw (length-spelled k n) in
-      record {
-        written = rw (c .is) (written-then w (written-one ys (at + k) after (field-last w)) q);
-        ends = omega (arith, c .count, length-field n after);
-      }
+  field-put w = put-before (record { written = written-one xs (end - 1) after field-at; ends = omega (arith, field-some) }) w
 
-pub ruleset fielding = (needs, field-room, field-last, field-put)
+pub ruleset fielding = (needs, field-some, field-at, field-room, field-kept, field-put)
 
--- a line is its fields, each with a space behind it and the last with a line feed
-line-more : (ns : List ℕ) (k : ℕ) → k + 1 < length ns → textLine (drop k ns) ≡ field (getD ns k 0) 32 ++ textLine (drop (k + 1) ns)
-unfolding textLine field
-line-more ns k h =
-    let l : k < length ns = omega arith in
-    let m : suc k < length ns = omega arith in
-    rw (add-one k, drop-cons ns k 0 l, drop-cons ns (suc k) 0 m)
-    (sym (append-assoc (decimal (getD ns k 0)) (32 ∷ []) (textLine (getD ns (suc k) 0 ∷ drop (suc (suc k)) ns))))
+-- two fields, the second first
+module _ (one other after end : ℕ) (xs : List ℕ) (h : Ends xs (pair one other after) end) where
+  length-pair : length (pair one other after) ≡ length (field one 32) + length (field other after)
+  unfolding pair
+  length-pair = length-append (field one 32) (field other after)
 
-line-last : (ns : List ℕ) (k : ℕ) → k < length ns → length ns ≤ k + 1 → textLine (drop k ns) ≡ field (getD ns k 0) 10
-unfolding textLine field
-line-last ns k l h = rw (drop-cons ns k 0 l, drop-of-length-le ns {i = suc k} (omega arith))
+  pub second-room : Ends xs (field other after) end
+  second-room = record { short = omega (arith, h .short, length-pair); within = h .within }
 
--- k fields of a line are written
-pub record Lining (bs₀ : List ℕ) (at : ℕ) (ns bs : List ℕ) (p k : ℕ) : Type 0 where
-  pub low : k < length ns
-  pub left : Writing bs₀ at (textLine ns) bs p (textLine (drop k ns))
+  module _ {p : ℕ} {ys : List ℕ} (w : Put xs p (field other after) ys end) where
+    pub first-room : Ends ys (field one 32) p
+    first-room = record { short = omega (arith, h .short, length-pair, w .ends); within = omega (arith, h .within, w .ends, length-written (w .written)) }
 
-pub lining-none : (bs : List ℕ) (at : ℕ) (ns : List ℕ) → (at + length (textLine ns) ≤ length bs) × (0 < length ns) → Lining bs at ns bs at 0
-lining-none bs at ns h = record { low = h .1; left = writing-none bs at (textLine ns) (h .0) }
+    pub pair-put : {r : ℕ} {zs : List ℕ} → Put ys r (field one 32) zs p → Put xs r (pair one other after) zs end
+    unfolding pair
+    pair-put v = put-before w v
 
-module _ {bs₀ : List ℕ} {at : ℕ} {ns bs : List ℕ} {p k : ℕ} (l : Lining bs₀ at ns bs p k) where
-  module _ (h : k + 1 < length ns) where
-    pub lining-room : p + (length (decimal (getD ns k 0)) + 1) ≤ length bs
-    lining-room =
-        let e : length (textLine (drop k ns)) ≡ length (field (getD ns k 0) 32) + length (textLine (drop (k + 1) ns)) =
-        ap length (line-more ns k h) ∙ length-append (field (getD ns k 0) 32) (textLine (drop (k + 1) ns)) in
-        omega (arith, l .left .end, l .left .fits, l .left .kept, length-field (getD ns k 0) 32)
+pub ruleset pairing = (needs, second-room, first-room, pair-put)
 
-    pub lining-more : {cs : List ℕ} {q : ℕ} → Put bs p (field (getD ns k 0) 32) cs q → Lining bs₀ at ns cs q (k + 1)
-    lining-more w = record { low = h; left = rw (w .ends) (writing-then (rw (line-more ns k h) at (l .left)) (w .written)) }
+-- a field from a place on: its digits are counted, and it ends there
+module _ {n k : ℕ} (at after : ℕ) (xs : List ℕ) (c : Counted n k) (h : at + (length (decimal n) + 1) ≤ length xs) where
+  pub end-room : Ends xs (field n after) (at + k + 1)
+  end-room = record { short = omega (arith, c .count, length-field n after); within = omega (arith, c .count) }
 
-  module _ (h : length ns ≤ k + 1) where
-    pub lining-room-last : p + (length (decimal (getD ns k 0)) + 1) ≤ length bs
-    lining-room-last = omega (arith, length-field (getD ns k 0) 10, ap length (line-last ns k (l .low) h), l .left .end, l .left .fits, l .left .kept)
+  pub end-put : {r : ℕ} {ys : List ℕ} → Put xs r (field n after) ys (at + k + 1) → Put xs at (field n after) ys (at + k + 1)
+  end-put {r} {ys} w =
+      let e : r ≡ at = omega (arith, c .count, length-field n after, w .ends) in
+      subst (λ (p : ℕ). Put xs p (field n after) ys (at + k + 1)) e w
 
-    pub lining-all : {cs : List ℕ} {q : ℕ} → Put bs p (field (getD ns k 0) 10) cs q → Put bs₀ at (textLine ns) cs q
-    lining-all w =
-        let e = line-last ns k (l .low) h in
-        record { written = writing-last (rw e at (l .left)) (w .written); ends = omega (arith, w .ends, ap length e, l .left .end) }
-
-pub ruleset lining = (needs, lining-none, lining-room, lining-more, lining-room-last, lining-all)
+pub ruleset ending = (needs, end-room, end-put)
 
 -- what is written to the front, and as long as it says
 pub fronted : {xs ys zs : List ℕ} {r : ℕ} → Written xs 0 ys zs → r ≡ length ys → Fronted xs ys zs r

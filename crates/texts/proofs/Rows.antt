@@ -11,7 +11,7 @@ use borrow.Author.Needs.{needs}
 use lib.ListN.{length, getD, drop, length-append, drop-of-length-le}
 use lib.Seq.{drop-cons}
 use Rattle.basis.specs.Bytes.{numberAt}
-use Rattle.basis.proofs.Bytes.{written-then, length-written}
+use Rattle.basis.proofs.Bytes.{length-written}
 use Rattle.basis.proofs.Rows.{numberAt-drop}
 use Rattle.meaning.specs.Report.{figureCount, entriesAt, entryLength, entryCount, entryAt, entryIn}
 use Rattle.meaning.specs.Text.{decimal, textLine}
@@ -20,9 +20,9 @@ use Rattle.fields.specs.Fields.{Field}
 use Rattle.reports.specs.Figures.{figuresAt}
 use Rattle.reports.specs.Stated.{Readable}
 use Rattle.reports.proofs.Entries.{figures-drop}
-use Rattle.texts.specs.Digits.{Counted, field, Put}
+use Rattle.texts.specs.Digits.{Counted, field, pair, Ends, Put}
 use Rattle.texts.specs.Rows.{Measured, headNumbers, entryNumbers}
-use Rattle.texts.proofs.Lines.{length-field}
+use Rattle.texts.proofs.Digits.{put-before}
 
 -- the bytes of fields, each with the byte behind it
 unfoldable pub spans : List ℕ → ℕ
@@ -74,37 +74,51 @@ module _ {fs : List ℕ} {rest : ℕ} (m : Measured fs rest) (e : length fs ≡ 
         small = omega (arith, f .few, s .few, m .small);
       }
 
--- a row is two fields, and the line of its figures
-row-parts : (a b : ℕ) (fs : List ℕ) → length fs ≡ figureCount → textLine (a ∷ b ∷ fs) ≡ field a 32 ++ (field b 32 ++ textLine fs)
-unfolding textLine field
+-- a row is three pairs
+row-parts : (a b : ℕ) (fs : List ℕ) → length fs ≡ figureCount
+    → textLine (a ∷ b ∷ fs) ≡ pair a b 32 ++ (pair (getD fs 0 0) (getD fs 1 0) 32 ++ pair (getD fs 2 0) (getD fs 3 0) 10)
+unfolding textLine pair field
 row-parts a b [] e = absurd (omega arith)
-row-parts a b (f ∷ fs) e = simp append-assoc
+row-parts a b (f ∷ []) e = absurd (omega arith)
+row-parts a b (f ∷ g ∷ []) e = absurd (omega arith)
+row-parts a b (f ∷ g ∷ h ∷ []) e = absurd (omega arith)
+row-parts a b (f ∷ g ∷ h ∷ i ∷ []) e = simp append-assoc
+row-parts a b (f ∷ g ∷ h ∷ i ∷ j ∷ fs) e = absurd (omega arith)
 
-module _ (a b : ℕ) (fs xs : List ℕ) (at : ℕ) (e : length fs ≡ figureCount) (h : at + length (textLine (a ∷ b ∷ fs)) ≤ length xs) where
-  room-parts : at + (length (field a 32) + (length (field b 32) + length (textLine fs))) ≤ length xs
+module _ (a b : ℕ) (fs xs : List ℕ) (end : ℕ) (e : length fs ≡ figureCount) (h : Ends xs (textLine (a ∷ b ∷ fs)) end) where
+  abbrev front : List ℕ
+  front = pair a b 32
+
+  abbrev middle : List ℕ
+  middle = pair (getD fs 0 0) (getD fs 1 0) 32
+
+  abbrev back : List ℕ
+  back = pair (getD fs 2 0) (getD fs 3 0) 10
+
+  room-parts : length front + (length middle + length back) ≤ end
   room-parts =
-      let l : length (field a 32 ++ (field b 32 ++ textLine fs)) ≡ length (field a 32) + (length (field b 32) + length (textLine fs)) = simp length-append in
-      omega (arith, ap length (row-parts a b fs e))
+      let l : length (front ++ (middle ++ back)) ≡ length front + (length middle + length back) = simp length-append in
+      omega (arith, h .short, ap length (row-parts a b fs e))
 
-  pub row-first-room : at + (length (decimal a) + 1) ≤ length xs
-  row-first-room = omega (arith, room-parts, length-field a 32)
+  pub row-back-room : Ends xs back end
+  row-back-room = record { short = omega (arith, room-parts); within = h .within }
 
-  module _ {ys : List ℕ} {p : ℕ} (f : Put xs at (field a 32) ys p) where
-    pub row-second-room : p + (length (decimal b) + 1) ≤ length ys
-    row-second-room = omega (arith, room-parts, length-field b 32, f .ends, length-written (f .written))
+  module _ {ys : List ℕ} {p : ℕ} (f : Put xs p back ys end) where
+    pub row-middle-room : Ends ys middle p
+    row-middle-room = record { short = omega (arith, room-parts, f .ends); within = omega (arith, h .within, f .ends, length-written (f .written)) }
 
-    module _ {zs : List ℕ} {q : ℕ} (s : Put ys p (field b 32) zs q) where
-      pub row-rest-room : q + length (textLine fs) ≤ length zs
-      row-rest-room = omega (arith, room-parts, f .ends, s .ends, length-written (f .written), length-written (s .written))
-
-      pub row-put : {us : List ℕ} {r : ℕ} → Put zs q (textLine fs) us r → Put xs at (textLine (a ∷ b ∷ fs)) us r
-      row-put m =
+    module _ {zs : List ℕ} {q : ℕ} (s : Put ys q middle zs p) where
+      pub row-front-room : Ends zs front q
+      row-front-room =
           record {
-            written = rw (row-parts a b fs e) (written-then (f .written) (written-then (s .written) (m .written) (s .ends)) (f .ends));
-            ends = omega (arith, f .ends, s .ends, m .ends, ap length (row-parts a b fs e), length-append (field a 32) (field b 32 ++ textLine fs), length-append (field b 32) (textLine fs));
+            short = omega (arith, room-parts, f .ends, s .ends);
+            within = omega (arith, h .within, f .ends, s .ends, length-written (f .written), length-written (s .written));
           }
 
-pub ruleset rowing = (needs, row-rest-fits, row-fits, row-measured, row-first-room, row-second-room, row-rest-room, row-put)
+      pub row-put : {us : List ℕ} {r : ℕ} → Put zs r front us q → Put xs r (textLine (a ∷ b ∷ fs)) us end
+      row-put m = rw (row-parts a b fs e) (put-before (put-before f s) m)
+
+pub ruleset rowing = (needs, row-rest-fits, row-fits, row-measured, row-back-room, row-middle-room, row-front-room, row-put)
 
 -- the numbers of a line as they are read
 pub head-read : (b : List ℕ) {ns : List ℕ} {year n : ℕ} → Readable b → Field 2 b 6 year → Field 2 b 8 n → ns ≡ year ∷ n ∷ figuresAt figureCount b 24 → ns ≡ headNumbers b

@@ -2,8 +2,9 @@
 use mathlib.Core.Bool.{Bool, true, false}
 use mathlib.Core.List.{List, [], _∷_, _++_, map}
 use mathlib.Core.Path.{_≡_, refl, ap, _∙_}
-use Prim.Native.Nat.{ℕ, suc, _+_, _*_, _-_, _≤_, _<_}
+use Prim.Native.Nat.{ℕ, zero, suc, _+_, _*_, _-_, _≤_, _<_}
 use native.Mathlib.Nat.{sub-zero}
+use native.Mathlib.Numerals.{add-one}
 use native.Mathlib.Omega.{arith}
 use mir.Syntax.{w64}
 use mir.Val.{Fits}
@@ -13,16 +14,16 @@ use Rattle.basis.specs.declared.Verdict.the-variants.{Passes}
 use Rattle.basis.specs.Answers.{firstRefusal, Gives}
 use Rattle.basis.specs.Bytes.{Written}
 use Rattle.basis.specs.Lists.{countUp, joined}
-use Rattle.basis.proofs.Bytes.{written-then, length-written}
+use Rattle.basis.proofs.Bytes.{length-written}
 use Rattle.meaning.specs.Report.{figureCount, entryCount, entryAt, entryIn, entriesOf, wellFormed}
 use Rattle.meaning.specs.Text.{textLine, reportText}
 use Rattle.meaning.specs.Calls.{formTest, text}
 use Rattle.meaning.proofs.Calls.{refused-gives, short-gives, made-gives}
 use Rattle.meaning.proofs.Reports.{length-masses, length-figures, length-totals}
 use Rattle.fields.specs.Fields.{Field}
-use Rattle.fields.proofs.Laws.{Writing, writing-none, writing-then, writing-all}
 use Rattle.reports.specs.Stated.{Readable}
-use Rattle.texts.specs.Digits.{Put}
+use Rattle.texts.specs.Digits.{Ends, Put}
+use Rattle.texts.proofs.Digits.{put-none, put-before}
 use Rattle.texts.specs.Rows.{Measured, headNumbers, entryNumbers, entryLine, entryLines, textOf}
 
 -- the lines of the entries from i on
@@ -86,58 +87,80 @@ module _ {b : List ℕ} {total i : ℕ} (t : Lengthening b total i) {n : ℕ} (f
 
 pub ruleset lengthening = (needs, lengthening-none, lengthening-fits, lengthening-more, lengthening-all)
 
--- the lines before entry i are written
-pub record Texting (b buf₀ : List ℕ) (at : ℕ) (buf : List ℕ) (p i : ℕ) : Type 0 where
+-- the lines from an entry on are not longer than all
+from-within : (b : List ℕ) (i : ℕ) → i ≤ entryCount b → length (linesFrom b i) ≤ length (entryLines b)
+from-within b zero l = omega (arith, ap length (lines-all b))
+from-within b (suc i) l =
+    let n = rw (add-one i) at (ap length (lines-next b i (omega arith))) in
+    omega (arith, n, length-append (entryLine b i) (linesFrom b (suc i)), from-within b i (omega arith))
+
+-- the lines from entry i on are written
+pub record Texting (b buf₀ : List ℕ) (end : ℕ) (buf : List ℕ) (p i : ℕ) : Type 0 where
   pub low : i ≤ entryCount b
-  pub left : Writing buf₀ at (entryLines b) buf p (linesFrom b i)
+  pub room : length (entryLines b) ≤ end
+  pub put : Put buf₀ p (linesFrom b i) buf end
 
-pub texting-none : (b buf : List ℕ) (at : ℕ) → Readable b × (at + length (entryLines b) ≤ length buf) → Texting b buf at buf at 0
-texting-none b buf at h = record { low = omega arith; left = rw (lines-all b) (writing-none buf at (entryLines b) (h .1)) }
+pub texting-none : (b buf : List ℕ) (end : ℕ) {n : ℕ} → Field 2 b 8 n → Readable b × Ends buf (entryLines b) end → Texting b buf end buf end n
+texting-none b buf end {n} f h =
+    record { low = omega (arith, f .is); room = h .1 .short; put = rw (lines-none b n (omega (arith, f .is))) (put-none buf end (h .1 .within)) }
 
-module _ {b buf₀ : List ℕ} {at : ℕ} {buf : List ℕ} {p i : ℕ} (t : Texting b buf₀ at buf p i) {n : ℕ} (f : Field 2 b 8 n) where
-  module _ (l : i < n) where
-    next-line : Writing buf₀ at (entryLines b) buf p (entryLine b i ++ linesFrom b (i + 1))
-    next-line = rw (lines-next b i (omega (arith, f .is))) at (t .left)
+module _ {b buf₀ : List ℕ} {end : ℕ} {buf : List ℕ} {p i : ℕ} (t : Texting b buf₀ end buf p i) where
+  pub texting-kept : length buf ≡ length buf₀
+  texting-kept = length-written (t .put .written)
 
-    pub texting-room : p + length (entryLine b i) ≤ length buf
-    texting-room = omega (arith, next-line .end, next-line .fits, next-line .kept, length-append (entryLine b i) (linesFrom b (i + 1)))
+  module _ (l : 0 < i) where
+    before : linesFrom b (i - 1) ≡ entryLine b (i - 1) ++ linesFrom b i
+    before = let q : i - 1 + 1 ≡ i = omega arith in rw q at (lines-next b (i - 1) (omega (arith, t .low)))
 
-    pub texting-more : {cs : List ℕ} {q : ℕ} → Put buf p (entryLine b i) cs q → Texting b buf₀ at cs q (i + 1)
-    texting-more w = record { low = omega (arith, f .is); left = rw (w .ends) (writing-then next-line (w .written)) }
+    pub texting-entry : i - 1 < entryCount b
+    texting-entry = omega (arith, t .low)
 
-  pub texting-all : n ≤ i → Written buf₀ at (entryLines b) buf
-  texting-all l = writing-all (rw (lines-none b i (omega (arith, f .is))) at (t .left))
+    pub texting-room : Ends buf (entryLine b (i - 1)) p
+    texting-room =
+        record {
+          short =
+              omega
+              (arith, t .room, t .put .ends, ap length before, length-append (entryLine b (i - 1)) (linesFrom b i), from-within b (i - 1) (omega (arith, t .low)));
+          within = omega (arith, t .put .written .fits, texting-kept);
+        }
 
-pub ruleset texting = (needs, texting-none, texting-room, texting-more, texting-all)
+    pub texting-more : {cs : List ℕ} {q : ℕ} → Put buf q (entryLine b (i - 1)) cs p → Texting b buf₀ end cs q (i - 1)
+    texting-more w = record { low = omega (arith, t .low); room = t .room; put = rw before (put-before (t .put) w) }
+
+  pub texting-all : i ≤ 0 → Put buf₀ p (entryLines b) buf end
+  texting-all l = let z : i ≡ 0 = omega arith in let e : linesFrom b i ≡ entryLines b = rw z (lines-all b) in rw e at (t .put)
+
+pub ruleset texting = (needs, texting-none, texting-kept, texting-entry, texting-room, texting-more, texting-all)
 
 -- the line of an entry, by its numbers
-pub line-room : (b : List ℕ) (i at : ℕ) (buf : List ℕ) {ns : List ℕ} → Readable b × (i < entryCount b) × (at + length (entryLine b i) ≤ length buf)
-    → ns ≡ entryNumbers (entryIn (entryAt b i)) → at + length (textLine ns) ≤ length buf
+pub line-room : (b : List ℕ) (i end : ℕ) (buf : List ℕ) {ns : List ℕ}
+    → Readable b × (i < entryCount b) × Ends buf (entryLine b i) end → ns ≡ entryNumbers (entryIn (entryAt b i)) → Ends buf (textLine ns) end
 unfolding entryLine
-line-room b i at buf h e = rw e (h .2)
+line-room b i end buf h e = rw e (h .2)
 
 pub line-put : (b : List ℕ) (i : ℕ) {ns buf cs : List ℕ} {at q : ℕ} → ns ≡ entryNumbers (entryIn (entryAt b i)) → Put buf at (textLine ns) cs q
     → Put buf at (entryLine b i) cs q
 unfolding entryLine
 line-put b i e w = rw (← e) w
 
--- the first line, and those of the entries behind it
-module _ (b buf : List ℕ) {ns : List ℕ} (h : Readable b × (length (textOf b) ≤ length buf)) (e : ns ≡ headNumbers b) where
-  head-parts : textOf b ≡ textLine ns ++ entryLines b
-  head-parts = rw e (text-parts b)
+-- the lines of the entries, and the first line before them
+module _ (b buf : List ℕ) (end : ℕ) (h : Readable b × (end ≡ length (textOf b)) × (end ≤ length buf)) where
+  text-length : length (textOf b) ≡ length (textLine (headNumbers b)) + length (entryLines b)
+  text-length = ap length (text-parts b) ∙ length-append (textLine (headNumbers b)) (entryLines b)
 
-  head-length : length (textOf b) ≡ length (textLine ns) + length (entryLines b)
-  head-length = ap length head-parts ∙ length-append (textLine ns) (entryLines b)
+  pub lines-room : Ends buf (entryLines b) end
+  lines-room = record { short = omega (arith, h .1, text-length); within = h .2 }
 
-  pub head-room : 0 + length (textLine ns) ≤ length buf
-  head-room = omega (arith, h .1, head-length)
+  module _ {cs ns : List ℕ} {at : ℕ} (w : Put buf at (entryLines b) cs end) (e : ns ≡ headNumbers b) where
+    pub head-room : Ends cs (textLine ns) at
+    head-room = record { short = rw e (omega (arith, h .1, text-length, w .ends)); within = omega (arith, w .written .fits, length-written (w .written)) }
 
-  module _ {cs : List ℕ} {at : ℕ} (w : Put buf 0 (textLine ns) cs at) where
-    pub lines-room : at + length (entryLines b) ≤ length cs
-    lines-room = omega (arith, h .1, head-length, w .ends, length-written (w .written))
-
-    pub text-written : {ds : List ℕ} → Written cs at (entryLines b) ds → Written buf 0 (textOf b) ds
-    text-written v = rw head-parts (written-then (w .written) v (w .ends))
+    pub text-written : {ds : List ℕ} {r : ℕ} → Put cs r (textLine ns) ds at → Written buf 0 (textOf b) ds
+    text-written {ds} {r} v =
+        let v′ : Put cs r (textLine (headNumbers b)) ds at = rw e at v in
+        let z : r ≡ 0 = omega (arith, h .1, text-length, w .ends, v′ .ends) in
+        let t : Written buf r (textOf b) ds = rw (text-parts b) (put-before w v′ .written) in
+        rw z at t
 
 module _ (b : List ℕ) {right : Bool} (e : right ≡ wellFormed b) where
   module _ (t : right ≡ true) where

@@ -1,19 +1,13 @@
--- The digits of a number by how many they are. Assumes nothing.
+-- Numbers as they are put, with the bytes behind them. Assumes nothing.
 use mathlib.Core.List.{List, [], _∷_, _++_}
 use mathlib.Core.Path.{_≡_}
-use Prim.Native.Nat.{ℕ, zero, suc, _+_, _/_, _%_, _≤_}
+use Prim.Native.Nat.{ℕ, _+_, _≤_}
 use lib.ListN.{length, take}
 use Rattle.basis.specs.Bytes.{ascii, Written}
-use Rattle.meaning.specs.Text.{digit, decimal}
-
--- the last k digits of n, highest first, as bytes
-unfoldable pub spelled : ℕ → ℕ → List ℕ
-spelled zero n = []
-spelled (suc k) n = spelled k (n / 10) ++ (digit (n % 10) ∷ [])
+use Rattle.meaning.specs.Text.{decimal}
 
 -- n has k digits, at most twenty
 pub record Counted (n k : ℕ) : Type 0 where
-  pub is : decimal n ≡ spelled k n
   pub count : k ≡ length (decimal n)
   pub few : k ≤ 20
 
@@ -21,9 +15,18 @@ pub record Counted (n k : ℕ) : Type 0 where
 unfoldable pub field : ℕ → ℕ → List ℕ
 field n after = decimal n ++ (after ∷ [])
 
+-- two numbers with a space between them, and the byte behind them
+unfoldable pub pair : ℕ → ℕ → ℕ → List ℕ
+pair one other after = field one 32 ++ field other after
+
 -- the line of an acceptance
 unfoldable pub acceptedLine : ℕ → List ℕ
 acceptedLine n = ascii "accepted " ++ field n 10
+
+-- ys has room in xs up to a place
+pub record Ends (xs ys : List ℕ) (end : ℕ) : Type 0 where
+  pub short : length ys ≤ end
+  pub within : end ≤ length xs
 
 -- ys is written over xs at a place, and ends where the next begins
 pub record Put (xs : List ℕ) (at : ℕ) (ys zs : List ℕ) (end : ℕ) : Type 0 where

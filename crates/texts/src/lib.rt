@@ -11,7 +11,7 @@ ghost use Rattle.meaning.specs.Calls.{text as Calls·text};
 ghost use Rattle.reports.specs.Figures.{figuresAt};
 ghost use Rattle.reports.specs.Stated.{Readable};
 ghost use Rattle.texts.specs.Rows.{Measured, numbersOf, headNumbers, entryNumbers, entryLine, entryLines, textOf};
-ghost use Rattle.texts.specs.Digits.{Counted, Put, Fronted, spelled, field, acceptedLine};
+ghost use Rattle.texts.specs.Digits.{Counted, Ends, Put, Fronted, field, pair, acceptedLine};
 ghost use Rattle.texts.specs.Saying.{answerLine, textOutput};
 use basis::Answer;
 use reports::ENTRIES_AT;
@@ -24,57 +24,72 @@ pub const TEXT_ROOM: usize = 40960;
 // "refused" with its space, and two numbers of at most twenty digits, each with the byte behind it.
 pub const LINE_ROOM: usize = 50;
 
-// How many digits a number has. A power of ten is compared with the number's tenth, so that the next power is at most the number.
+// Of a number of at most four digits, how many they are.
+fn few_digits(n: u64) -> usize
+    requires { ⌜ n < 10000 ⌝ }
+    ensures { λ r. ⌜ r ≡ length (decimal n) ⌝ }
+{
+    if n < 10 {
+        return 1;
+    }
+    if n < 100 {
+        return 2;
+    }
+    if n < 1000 {
+        return 3;
+    }
+    4
+}
+
+// How many digits a number has. Most figures are 0, and others are counted by four digits at a time.
 fn digit_count(n: u64) -> usize
     ensures { λ r. ⌜ Counted n r ⌝ }
 {
-    let tenth = n / 10;
-    let mut power: u64 = 1;
-    let mut k: usize = 1;
-    while power <= tenth {
-        power = power * 10;
-        k += 1;
+    if n < 10 {
+        return 1;
     }
-    k
+    let mut rest = n;
+    let mut k: usize = 0;
+    while 10000 <= rest {
+        rest = rest / 10000;
+        k += 4;
+    }
+    k + few_digits(rest)
 }
 
-// The last k digits of a number, written from the last to the first.
-fn put_digits(buf: &mut [u8], at: usize, n: u64, k: usize)
-    requires { ⌜ at + k ≤ length (now buf) ⌝ }
-    ensures { λ _. ⌜ Written (now (buf .entry)) at (spelled k n) (now (buf .exit)) ⌝ }
+// The digits of a number up to a place, from the last to the first: so they need not be counted. Answers where they begin.
+fn put_digits(buf: &mut [u8], end: usize, n: u64) -> usize
+    requires { ⌜ Ends (now buf) (decimal n) end ⌝ }
+    ensures { λ r. ⌜ Put (now (buf .entry)) r (decimal n) (now (buf .exit)) end ⌝ }
 {
-    let mut i = k;
+    let mut p = end;
     let mut rest = n;
-    while 0 < i {
-        i -= 1;
-        buf[at + i] = (48 + rest % 10) as u8;
+    while 10 <= rest {
+        p -= 1;
+        buf[p] = (48 + rest % 10) as u8;
         rest = rest / 10;
     }
+    p -= 1;
+    buf[p] = (48 + rest) as u8;
+    p
 }
 
-// A number and the byte behind it, a space or a line feed. Answers where the next field begins.
-fn put_field(buf: &mut [u8], at: usize, n: u64, after: u8) -> usize
-    requires { ⌜ at + (length (decimal n) + 1) ≤ length (now buf) ⌝ }
-    ensures { λ r. ⌜ Put (now (buf .entry)) at (field n after) (now (buf .exit)) r ⌝ }
+// A number and the byte behind it, a space or a line feed, up to a place.
+fn put_field(buf: &mut [u8], end: usize, n: u64, after: u8) -> usize
+    requires { ⌜ Ends (now buf) (field n after) end ⌝ }
+    ensures { λ r. ⌜ Put (now (buf .entry)) r (field n after) (now (buf .exit)) end ⌝ }
 {
-    let k = digit_count(n);
-    put_digits(buf, at, n, k);
-    buf[at + k] = after;
-    at + k + 1
+    buf[end - 1] = after;
+    put_digits(buf, end - 1, n)
 }
 
-// A line of numbers: "One space parts fields, a line feed ends each line".
-fn put_line(buf: &mut [u8], at: usize, ns: &[u64]) -> usize
-    requires { ⌜ (at + length (textLine (now ns)) ≤ length (now buf)) × (0 < length (now ns)) ⌝ }
-    ensures { λ r. ⌜ Put (now (buf .entry)) at (textLine (now (ns .entry))) (now (buf .exit)) r ⌝ }
+// Two numbers with a space between them.
+fn put_pair(buf: &mut [u8], end: usize, one: u64, other: u64, after: u8) -> usize
+    requires { ⌜ Ends (now buf) (pair one other after) end ⌝ }
+    ensures { λ r. ⌜ Put (now (buf .entry)) r (pair one other after) (now (buf .exit)) end ⌝ }
 {
-    let mut p = at;
-    let mut k: usize = 0;
-    while k + 1 < ns.len() {
-        p = put_field(buf, p, ns[k], b' ');
-        k += 1;
-    }
-    put_field(buf, p, ns[k], b'\n')
+    let p = put_field(buf, end, other, after);
+    put_field(buf, p, one, b' ')
 }
 
 // The bytes of a line of figures.
@@ -143,16 +158,17 @@ fn row_length(row: Row) -> usize
     first + 1 + (second + 1 + rest)
 }
 
-fn put_row(buf: &mut [u8], at: usize, row: Row) -> usize
-    requires { ⌜ at + length (textLine (numbersOf row)) ≤ length (now buf) ⌝ }
-    ensures { λ r. ⌜ Put (now (buf .entry)) at (textLine (numbersOf row)) (now (buf .exit)) r ⌝ }
+// A line of numbers: "One space parts fields, a line feed ends each line".
+fn put_row(buf: &mut [u8], end: usize, row: Row) -> usize
+    requires { ⌜ Ends (now buf) (textLine (numbersOf row)) end ⌝ }
+    ensures { λ r. ⌜ Put (now (buf .entry)) r (textLine (numbersOf row)) (now (buf .exit)) end ⌝ }
 {
     let first = row.first;
     let second = row.second;
     let figures = row.figures;
-    let p = put_field(buf, at, first, b' ');
-    let q = put_field(buf, p, second, b' ');
-    put_line(buf, q, &figures)
+    let p = put_pair(buf, end, figures[2], figures[3], b'\n');
+    let q = put_pair(buf, p, figures[0], figures[1], b' ');
+    put_pair(buf, q, first, second, b' ')
 }
 
 // The length of a report's text, reckoned before anything is written.
@@ -170,33 +186,33 @@ fn text_length(report: &[u8]) -> usize
     total
 }
 
-fn put_entry_line(report: &[u8], i: usize, buf: &mut [u8], at: usize) -> usize
-    requires { ⌜ Readable (now report) × (i < entryCount (now report)) × (at + length (entryLine (now report) i) ≤ length (now buf)) ⌝ }
-    ensures { λ r. ⌜ Put (now (buf .entry)) at (entryLine (now (report .entry)) i) (now (buf .exit)) r ⌝ }
+fn put_entry_line(report: &[u8], i: usize, buf: &mut [u8], end: usize) -> usize
+    requires { ⌜ Readable (now report) × (i < entryCount (now report)) × Ends (now buf) (entryLine (now report) i) end ⌝ }
+    ensures { λ r. ⌜ Put (now (buf .entry)) r (entryLine (now (report .entry)) i) (now (buf .exit)) end ⌝ }
 {
-    put_row(buf, at, entry_row(report, i))
+    put_row(buf, end, entry_row(report, i))
 }
 
-// "then one line an entry"
-fn put_lines(report: &[u8], buf: &mut [u8], at: usize)
-    requires { ⌜ Readable (now report) × (at + length (entryLines (now report)) ≤ length (now buf)) ⌝ }
-    ensures { λ _. ⌜ Written (now (buf .entry)) at (entryLines (now (report .entry))) (now (buf .exit)) ⌝ }
+// "then one line an entry", from the last to the first.
+fn put_lines(report: &[u8], buf: &mut [u8], end: usize) -> usize
+    requires { ⌜ Readable (now report) × Ends (now buf) (entryLines (now report)) end ⌝ }
+    ensures { λ r. ⌜ Put (now (buf .entry)) r (entryLines (now (report .entry))) (now (buf .exit)) end ⌝ }
 {
-    let n = fields::u16_at(report, 8) as usize;
-    let mut p = at;
-    let mut i: usize = 0;
-    while i < n {
+    let mut i = fields::u16_at(report, 8) as usize;
+    let mut p = end;
+    while 0 < i {
+        i -= 1;
         p = put_entry_line(report, i, buf, p);
-        i += 1;
     }
+    p
 }
 
-fn put_text(report: &[u8], buf: &mut [u8])
-    requires { ⌜ Readable (now report) × (length (textOf (now report)) ≤ length (now buf)) ⌝ }
+fn put_text(report: &[u8], buf: &mut [u8], end: usize)
+    requires { ⌜ Readable (now report) × (end ≡ length (textOf (now report))) × (end ≤ length (now buf)) ⌝ }
     ensures { λ _. ⌜ Written (now (buf .entry)) 0 (textOf (now (report .entry))) (now (buf .exit)) ⌝ }
 {
-    let at = put_row(buf, 0, head_row(report));
-    put_lines(report, buf, at);
+    let at = put_lines(report, buf, end);
+    put_row(buf, at, head_row(report));
 }
 
 // The text of a report at the front of a buffer: 9 with place 1, then 8 with the length needed.
@@ -213,7 +229,7 @@ pub fn text(report: &[u8], buffer: &mut [u8]) -> Answer
                 length: 0,
             };
         }
-        put_text(report, buffer);
+        put_text(report, buffer, needed);
         return Answer {
             number: 0,
             place: 0,
@@ -227,11 +243,21 @@ pub fn text(report: &[u8], buffer: &mut [u8]) -> Answer
     }
 }
 
+// A number and the byte behind it, from a place on. Answers where they end.
+fn put_field_at(buf: &mut [u8], at: usize, n: u64, after: u8) -> usize
+    requires { ⌜ at + (length (decimal n) + 1) ≤ length (now buf) ⌝ }
+    ensures { λ r. ⌜ Put (now (buf .entry)) at (field n after) (now (buf .exit)) r ⌝ }
+{
+    let end = at + digit_count(n) + 1;
+    put_field(buf, end, n, after);
+    end
+}
+
 // A number and the byte behind it, at the front of an array in which twenty digits fit. Answers how many bytes they are.
 pub fn number_field(n: u64, after: u8, line: &mut [u8; 21]) -> usize
     ensures { λ r. ⌜ Fronted (now (line .entry)) (field n after) (now (line .exit)) r ⌝ }
 {
-    put_field(line, 0, n, after)
+    put_field_at(line, 0, n, after)
 }
 
 // The word `accepted` and the length. Answers how long the line is.
@@ -239,7 +265,7 @@ fn accepted_line(accepted: u64, line: &mut [u8; LINE_ROOM]) -> usize
     ensures { λ r. ⌜ Fronted (now (line .entry)) (acceptedLine accepted) (now (line .exit)) r ⌝ }
 {
     fields::put_bytes(line, 0, b"accepted ");
-    put_field(line, 9, accepted, b'\n')
+    put_field_at(line, 9, accepted, b'\n')
 }
 
 // "A refusal is the line `refused`, number, place": two numbers of at most twenty digits always fit. Answers how long the line is.
@@ -247,8 +273,8 @@ fn refused_line(number: u32, place: u64, line: &mut [u8; LINE_ROOM]) -> usize
     ensures { λ r. ⌜ Fronted (now (line .entry)) (refusedLine number place) (now (line .exit)) r ⌝ }
 {
     fields::put_bytes(line, 0, b"refused ");
-    let at = put_field(line, 8, number as u64, b' ');
-    put_field(line, at, place, b'\n')
+    let at = put_field_at(line, 8, number as u64, b' ');
+    put_field_at(line, at, place, b'\n')
 }
 
 // The line of an answer.

@@ -1,13 +1,12 @@
-use Prim.Native.Nat.{_+_, _-_}
 use Rattle.texts.proofs.Digits.{Counting, counting}
 use Rattle.texts.proofs.digit_count.Statement.{statement}
 use Rattle.texts.proofs.digit_count.Tie as tie
 
 abbrev Inv-loop : tie.InvT-loop
-Inv-loop n tenth power₀ k₀ power k = Counting n power k
+Inv-loop n rest₀ k₀ rest k = Counting n rest k
 
 abbrev μ-loop : tie.MeasureT-loop
-μ-loop n tenth power₀ k₀ power k = tenth + 1 - power
+μ-loop n rest₀ k₀ rest k = rest
 
 pub digit-count-spec : {M : Type 1} → statement M
 digit-count-spec =
@@ -19,5 +18,7 @@ digit-count-spec =
     (λ c. search counting)
     (λ c. search counting)
     (λ c. search counting)
+    (λ c. search counting)
+    (λ c κs. search counting)
     (λ c. search counting)
     (λ c. search counting))

@@ -1,13 +1,12 @@
-use Prim.Native.Nat.{_-_}
 use Rattle.texts.proofs.Texts.{Texting, texting}
 use Rattle.texts.proofs.put_lines.Statement.{statement}
 use Rattle.texts.proofs.put_lines.Tie as tie
 
 abbrev Inv-loop : tie.InvT-loop
-Inv-loop report buf₀ at n p₀ i₀ buf p i = Texting report buf₀ at buf p i
+Inv-loop report buf₀ end i₀ p₀ buf i p = Texting report buf₀ end buf p i
 
 abbrev μ-loop : tie.MeasureT-loop
-μ-loop report buf₀ at n p₀ i₀ buf p i = n - i
+μ-loop report buf₀ end i₀ p₀ buf i p = i
 
 pub put-lines-spec : {M : Type 1} → statement M
 put-lines-spec =
@@ -17,8 +16,8 @@ put-lines-spec =
     μ-loop
     (λ c κs. search texting)
     (λ c. search texting)
-    (λ c κs. search texting)
     (λ c. search texting)
+    (λ c κs. search texting)
     (λ c. search texting)
     (λ c. search texting)
     (λ c. search texting)

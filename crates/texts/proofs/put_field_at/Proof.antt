@@ -1,0 +1,15 @@
+use borrow.Author.Needs.{needs}
+use Rattle.texts.proofs.Lines.{ending}
+use Rattle.texts.proofs.put_field_at.Statement.{statement}
+use Rattle.texts.proofs.put_field_at.Tie as tie
+
+pub put-field-at-spec : {M : Type 1} → statement M
+put-field-at-spec =
+    tie.close
+    (tie.spec
+    (search needs)
+    (search needs)
+    (search needs)
+    (λ c κs. search ending)
+    (search needs)
+    (λ c. search ending))
