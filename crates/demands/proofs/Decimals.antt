@@ -7,10 +7,11 @@ use native.Mathlib.Decide.{decLt}
 use native.Mathlib.Omega.{arith}
 use lib.Dec.{ltb}
 use lib.ListN.{length, getD, length-append}
-use borrow.Author.Tests.{ltb-true, ltb-false, lt-ltb, le-ltb}
+use borrow.Author.Tests.{ltb-true, ltb-false}
 use Rattle.basis.specs.Lists.{Each}
 use Rattle.basis.proofs.Lists.{each-append}
 use Rattle.meaning.specs.Text.{digit, digits, decimal}
+use Rattle.meaning.proofs.Decimals.{decimal-one, decimal-more}
 use Rattle.demands.specs.Text.{readBehind, Decimal}
 
 -- a digit behind digits
@@ -63,32 +64,13 @@ pub decimal-written : (n : ℕ) → Decimal n (decimal n)
 unfolding decimal
 decimal-written n = digits-written n n (omega arith) .decimal
 
--- more fuel makes no difference
-digits-fuel : (f g n : ℕ) → n ≤ f → n ≤ g → digits f n ≡ digits g n
-unfolding digits
-digits-fuel zero zero n l m = refl
-digits-fuel zero (suc g) n l m = rw (lt-ltb n 10 (omega arith))
-digits-fuel (suc f) zero n l m = rw (lt-ltb n 10 (omega arith))
-digits-fuel (suc f) (suc g) n l m = by (ltb n 10) refl (λ h. digits-fuel f g (n / 10) (omega arith) (omega arith))
-  where
-    by : (c : Bool) → ltb n 10 ≡ c → (10 ≤ n → digits f (n / 10) ≡ digits g (n / 10))
-        → cond c (digit n ∷ []) (digits f (n / 10) ++ (digit (n % 10) ∷ [])) ≡ cond c (digit n ∷ []) (digits g (n / 10) ++ (digit (n % 10) ∷ []))
-    by true e later = refl
-    by false e later = rw (later (ltb-false n 10 e))
-
-decimal-more : (n k : ℕ) → 0 < n → k < 10 → decimal (10 * n + k) ≡ decimal n ++ (digit k ∷ [])
-unfolding decimal digits
-decimal-more n k p l =
+-- a digit behind those of a number above zero
+last-digit : (n k : ℕ) → 0 < n → k < 10 → decimal (10 * n + k) ≡ decimal n ++ (digit k ∷ [])
+last-digit n k p l =
     let m = 10 * n + k in
     let q : m / 10 ≡ n = omega arith in
     let r : m % 10 ≡ k = omega arith in
-    let e : ltb m 10 ≡ false = le-ltb m 10 (omega arith) in
-    digits-fuel m (suc m) m (omega arith) (omega arith) ∙ rw (e, q, r, digits-fuel m n n (omega arith) (omega arith))
-
-decimal-small : (n : ℕ) → n < 10 → decimal n ≡ digit n ∷ []
-unfolding decimal digits
-decimal-small zero l = refl
-decimal-small (suc n) l = rw (lt-ltb (suc n) 10 l)
+    rw (q, r) at (decimal-more m (omega arith))
 
 -- digits that stand for a number above zero go on with what stands behind them
 decimal-behind : (n : ℕ) (ds : List ℕ) → 0 < n → Each (λ d. (48 ≤ d) × (d ≤ 57)) ds → decimal (readBehind n ds) ≡ decimal n ++ ds
@@ -96,7 +78,7 @@ decimal-behind n [] p e = sym (append-nil (decimal n))
 decimal-behind n (d ∷ ds) p e =
     let q : digit (d - 48) ≡ d = omega (arith, e .0) in
     decimal-behind (10 * n + (d - 48)) ds (omega arith) (e .1)
-    ∙ ap (λ (l : List ℕ). l ++ ds) (decimal-more n (d - 48) p (omega (arith, e .0)))
+    ∙ ap (λ (l : List ℕ). l ++ ds) (last-digit n (d - 48) p (omega (arith, e .0)))
     ∙ append-assoc (decimal n) (digit (d - 48) ∷ []) ds
     ∙ ap (λ (x : ℕ). decimal n ++ (x ∷ ds)) q
 
@@ -117,10 +99,10 @@ decimal-only n (d ∷ ds) w = by (decLt 48 d)
         sym
         (ap decimal (sym r)
         ∙ decimal-behind (d - 48) ds (omega arith) (e .1)
-        ∙ ap (λ (l : List ℕ). l ++ ds) (decimal-small (d - 48) (omega (arith, e .0)))
+        ∙ ap (λ (l : List ℕ). l ++ ds) (decimal-one (d - 48) (omega (arith, e .0)))
         ∙ ap (λ (x : ℕ). x ∷ ds) q)
     by (no l) =
         let q : d ≡ 48 = omega (arith, w .digits .0) in
         let none : ds ≡ [] = rest-none ds (omega (arith, w .noZero q)) in
         let r : n ≡ 0 = sym (w .reads) ∙ ap₂ (λ (x : ℕ) (l : List ℕ). readBehind (10 * 0 + (x - 48)) l) q none in
-        ap₂ (λ (x : ℕ) (l : List ℕ). x ∷ l) q none ∙ sym (ap decimal r ∙ decimal-small 0 (omega arith))
+        ap₂ (λ (x : ℕ) (l : List ℕ). x ∷ l) q none ∙ sym (ap decimal r ∙ decimal-one 0 (omega arith))

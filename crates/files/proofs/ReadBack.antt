@@ -10,7 +10,7 @@ use lib.Dec.{ltb}
 use lib.ListN.{length, length-append}
 use Rattle.basis.specs.Bytes.{ascii}
 use Rattle.meaning.specs.Text.{digit, digits, decimal}
-use Rattle.texts.proofs.Digits.{more-digits}
+use Rattle.meaning.proofs.Decimals.{one-digit, more-digits}
 use Rattle.files.specs.declared.Numeral.the-variants.{NoNumber, Number}
 use Rattle.files.specs.Numerals.{isDigit, readOn, numberIn}
 
@@ -31,11 +31,6 @@ read-then n (first ∷ word) m byte e = by (isDigit first && ltb (n * 10 + (firs
         → readOn n (first ∷ word ++ (byte ∷ [])) ≡ readOn m (byte ∷ [])
     by true q later = rw q (later (rw q at e))
     by false q later = let z : NoNumber ≡ Number m = rw q at e in let w : _≡_ {A = ℕ} 0 1 = cc in absurd (omega arith)
-
-one-digit : (fuel n : ℕ) → n < 10 → digits fuel n ≡ digit n ∷ []
-unfolding digits
-one-digit zero n l = refl
-one-digit (suc fuel) n l = rw (lt-ltb n 10 l)
 
 digits-read : (fuel n : ℕ) → n ≤ fuel → n < 4294967296 → readOn 0 (digits fuel n) ≡ Number n
 digits-read zero n f l = let e : n ≡ 0 = omega arith in rw (e, one-digit 0 0 (omega arith)) (one-more 0 0 (omega arith) (omega arith))

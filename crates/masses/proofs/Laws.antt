@@ -20,7 +20,7 @@ use Rattle.meaning.specs.Masses.{gasCount, carbonDioxide, contribution, addsTo,
 use Rattle.methods.specs.declared.Term.{Term}
 use Rattle.methods.specs.Terms.{Weighs, contributed}
 use Rattle.exact.specs.declared.Amount.{Amount}
-use Rattle.exact.specs.Amounts.{value, scale, nothing, Room, Added}
+use Rattle.exact.specs.Amounts.{value, scale, nothing, Added}
 use Rattle.exact.proofs.Amounts.{room-less, room-next}
 use Rattle.masses.specs.declared.Sums.{Sums}
 use Rattle.masses.specs.Sums.{Roomy, More, Counts}

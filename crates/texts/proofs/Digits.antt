@@ -1,13 +1,10 @@
 -- Decimal numbers: how many digits they have, and how they are written from the last to the first. Assumes nothing.
 use mathlib.Core.List.{List, [], _∷_, _++_, append-assoc, append-nil}
-use mathlib.Core.Path.{_≡_, refl, sym, ap, _∙_}
-use Prim.Native.Nat.{ℕ, zero, suc, _+_, _*_, _-_, _/_, _%_, _^_, _≤_, _<_}
-use native.Mathlib.Nat.{pow-suc}
-use native.Mathlib.Decide.{decLt}
+use mathlib.Core.Path.{_≡_, sym, ap, _∙_}
+use Prim.Native.Nat.{ℕ, _+_, _-_, _/_, _%_, _≤_, _<_}
 use native.Mathlib.Numerals.{add-one}
 use native.Mathlib.Omega.{arith}
 use borrow.Author.Needs.{needs}
-use borrow.Author.Tests.{lt-ltb, le-ltb}
 use lib.ListN.{length, take, drop, set, length-append}
 use lib.Seq.{set-split, drop-at, length-take-le}
 use mir.Syntax.{w64}
@@ -15,38 +12,8 @@ use mir.Val.{Fits}
 use Rattle.basis.specs.Bytes.{splice, Written}
 use Rattle.basis.proofs.Bytes.{splice-none, length-written, read-before}
 use Rattle.meaning.specs.Text.{digit, digits, decimal}
-use Rattle.meaning.proofs.Decimals.{decimal-few as few-digits}
+use Rattle.meaning.proofs.Decimals.{decimal-one, decimal-more, decimal-few as few-digits}
 use Rattle.texts.specs.Digits.{Counted, Ends, Put}
-
--- a number below ten is one digit, and a larger one is a digit behind those of its tenth
-one-digit : (fuel n : ℕ) → n < 10 → digits fuel n ≡ digit n ∷ []
-unfolding digits
-one-digit zero n l = refl
-one-digit (suc fuel) n l = rw (lt-ltb n 10 l)
-
-pub more-digits : (fuel n : ℕ) → 10 ≤ n → digits (suc fuel) n ≡ digits fuel (n / 10) ++ (digit (n % 10) ∷ [])
-unfolding digits
-more-digits fuel n l = rw (le-ltb n 10 l)
-
--- with fuel enough, more makes no difference
-fuel-enough : (f g n : ℕ) → n ≤ f → n ≤ g → digits f n ≡ digits g n
-fuel-enough zero g n p q = one-digit zero n (omega arith) ∙ sym (one-digit g n (omega arith))
-fuel-enough (suc f) zero n p q = one-digit (suc f) n (omega arith) ∙ sym (one-digit zero n (omega arith))
-fuel-enough (suc f) (suc g) n p q = by (decLt n 10) (λ l. fuel-enough f g (n / 10) (omega arith) (omega arith))
-  where
-    by : Dec (n < 10) → (10 ≤ n → digits f (n / 10) ≡ digits g (n / 10)) → digits (suc f) n ≡ digits (suc g) n
-    by (yes l) h = one-digit (suc f) n l ∙ sym (one-digit (suc g) n l)
-    by (no l) h = rw (more-digits f n (omega arith), more-digits g n (omega arith), h (omega arith))
-
-decimal-one : (n : ℕ) → n < 10 → decimal n ≡ digit n ∷ []
-unfolding decimal
-decimal-one n l = one-digit n n l
-
-decimal-more : (n : ℕ) → 10 ≤ n → decimal n ≡ decimal (n / 10) ++ (digit (n % 10) ∷ [])
-unfolding decimal
-decimal-more n l =
-    fuel-enough n (suc n) n (omega arith) (omega arith) ∙ more-digits n n l
-    ∙ ap (λ (ds : List ℕ). ds ++ (digit (n % 10) ∷ [])) (fuel-enough n (n / 10) (n / 10) (omega arith) (omega arith))
 
 -- no number of 64 bits has more than twenty digits
 pub decimal-few : (n : ℕ) → Fits w64 n → length (decimal n) ≤ 20

@@ -1,6 +1,5 @@
 use mathlib.Core.Path.{_≡_}
 use native.Mathlib.Omega.{arith}
-use borrow.Author.Needs.{needs}
 use Rattle.exact.proofs.scale_of.Statement.{statement}
 use Rattle.exact.proofs.scale_of.Tie as tie
 
