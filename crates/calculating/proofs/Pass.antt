@@ -22,7 +22,7 @@ use Rattle.basis.proofs.Bytes.{read-before, read-inside, length-written}
 use Rattle.basis.proofs.Counting.{getD-either}
 use Rattle.basis.proofs.First.{first-is}
 use Rattle.meaning.specs.Methods.{isBad}
-use Rattle.meaning.specs.Register.{sourceCount, sourceEntry, firstLineIn, lineCountIn, sourceAt, sourcesOf, lineStart, unsound, misplaced, wrongSource}
+use Rattle.meaning.specs.Register.{linesAt, sourceCount, sourceEntry, firstLineIn, lineCountIn, sourceAt, sourcesOf, lineStart, unsound, misplaced, wrongSource}
 use Rattle.meaning.specs.Report.{entryOf, figures, figureCount}
 use Rattle.meaning.specs.Calls.{badLine, lineTest, massFault, faultAt, massTest}
 use Rattle.meaning.proofs.Lengths.{source-massed}
@@ -30,7 +30,7 @@ use Rattle.meaning.proofs.Reports.{length-figures}
 use Rattle.meaning.proofs.Lines.{Following, allLines, next-line, length-lines, line-is}
 use Rattle.meaning.proofs.Sources.{Placed, placed, noSource, length-sources, source-at}
 use Rattle.meaning.proofs.Registers.{right-register}
-use Rattle.calculating.specs.Sources.{Passed, badFor, ComesAt, waited, Stored, Judged}
+use Rattle.calculating.specs.Sources.{Passed, Begins, badFor, ComesAt, waited, Stored, Judged}
 use Rattle.calculating.specs.declared.sources.Judgement.{Judgement}
 use Rattle.calculating.proofs.Waiting.{waitedFrom, mass-test}
 
@@ -42,6 +42,18 @@ stands b h i l = placed b i (or-false (misplaced b i) (unsound (sourceAt b i)) (
 -- the lines of a register that has passed follow one another
 pub following : (b : List ℕ) → Passed b → Following b
 following b h = record { each = λ i l. stands b h i l .line; last = right-register b (h .tests) .lastLine }
+
+-- where the lines of the first source begin, and those of source i
+pub begins-first : (b : List ℕ) → 0 ≡ lineStart b 0
+unfolding lineStart
+begins-first b = refl
+
+pub begins-at : {b : List ℕ} {n base i first : ℕ} → Passed b → n ≡ sourceCount b → base ≡ linesAt (sourceCount b) → i < n → first ≡ lineStart b i → Begins b base i first
+begins-at {b} {i = i} h e d l f = record { stand = d; from = f ∙ sym (following b h .each i (omega arith)) }
+
+-- the next source begins where the lines of this one end, which are good
+pub begins-next : {b : List ℕ} {i : ℕ} {r : Judgement} → Passed b → i < sourceCount b → ComesAt b i r → r .good ≡ true → r .line ≡ lineStart b (i + 1)
+begins-next {b} {i} h l c e = omega (arith, c .all e, next-line b (following b h) i l, following b h .each i l)
 
 -- the faults of all sources
 unfoldable pub faults : List ℕ → List ℕ
@@ -154,4 +166,4 @@ passing-all {b} {kept₀} {kept} {w} {i} h s l =
       stored = λ p k m. s .stored k (omega arith) (none-faulty b (sym sums ∙ p) k m);
     }
 
-pub ruleset passing = (needs, passing-none, passing-bad, passing-more, passing-all)
+pub ruleset passing = (needs, begins-first, begins-at, passing-none, passing-bad, passing-more, passing-all)

@@ -11,7 +11,7 @@ use Rattle.basis.specs.Answers.{firstRefusal}
 use Rattle.registers.specs.Layout.{Headed}
 use Rattle.registers.specs.Keys.{sortedKeys}
 use Rattle.meaning.specs.Methods.{isBad, decoded}
-use Rattle.meaning.specs.Register.{lineAt, sourceEntry, methodIn, parameterIn, firstLineIn, lineCountIn, sourceAt, sourceCount, sourcesOf, registerTests}
+use Rattle.meaning.specs.Register.{linesAt, lineAt, sourceEntry, methodIn, parameterIn, firstLineIn, lineCountIn, sourceAt, sourceCount, sourcesOf, registerTests}
 use Rattle.meaning.specs.Report.{entryOf, figures, figureCount}
 use Rattle.meaning.specs.Calls.{massFault, lineTest, massTest}
 use Rattle.calculating.specs.declared.sources.Judgement.{Judgement}
@@ -20,6 +20,11 @@ use Rattle.calculating.specs.declared.sources.Judgement.{Judgement}
 pub record Passed (b : List ℕ) : Type 0 where
   pub tests : firstRefusal (registerTests b) ≡ Passes
   pub head : Headed b
+
+-- where all lines stand in the bytes, and the line with which those of source i begin
+pub record Begins (b : List ℕ) (base i first : ℕ) : Type 0 where
+  pub stand : base ≡ linesAt (sourceCount b)
+  pub from : first ≡ firstLineIn (sourceEntry b i)
 
 -- whether line j is bad for the method and parameter of source i
 abbrev pub badFor : List ℕ → ℕ → ℕ → Bool

@@ -5,7 +5,7 @@ ghost use lib.ListN.{length};
 ghost use Rattle.basis.specs.Bytes.{Written};
 ghost use Rattle.meaning.specs.Register.{sourceCount};
 ghost use Rattle.meaning.specs.Report.{figureCount};
-ghost use Rattle.calculating.specs.Sources.{Passed, ComesAt, waited, Judged};
+ghost use Rattle.calculating.specs.Sources.{Passed, Begins, ComesAt, waited, Judged};
 use basis::Verdict;
 use masses::FIGURES;
 
@@ -21,25 +21,17 @@ struct Judgement {
     figures: [u64; FIGURES],
 }
 
-fn judge_entry(register: &[u8], i: usize) -> Judgement
-    requires { ⌜ Passed (now register) × (i < sourceCount (now register)) ⌝ }
+// The lines of entry i begin where those of the entry before it ended.
+fn judge_entry(register: &[u8], base: usize, i: usize, first: usize) -> Judgement
+    requires { ⌜ Passed (now register) × (i < sourceCount (now register)) × Begins (now register) base i first ⌝ }
     ensures { λ r. ⌜ ComesAt (now (register .entry)) i r ⌝ }
 {
-    let n = fields::u16_at(register, 8) as usize;
     let at = SOURCES + SOURCE * i;
     let method = fields::u8_at(register, at + 4);
     let parameter = fields::u8_at(register, at + 5);
     let count = fields::u16_at(register, at + 6) as usize;
-    let first = fields::u16_at(register, at + 8) as usize;
     let end = first + count;
-    let source = masses::judge_source(
-        register,
-        method,
-        parameter,
-        SOURCES + SOURCE * n,
-        first,
-        end,
-    );
+    let source = masses::judge_source(register, method, parameter, base, first, end);
     let line = source.at;
     let figures = source.figures;
     Judgement {
@@ -89,10 +81,12 @@ pub fn judge_sources(register: &[u8], kept: &mut [u64]) -> Verdict
     ensures { λ r. ⌜ Judged (now (register .entry)) r (now (kept .exit)) ⌝ }
 {
     let n = fields::u16_at(register, 8) as usize;
+    let base = SOURCES + SOURCE * n;
+    let mut first: usize = 0;
     let mut waiting = Verdict::Passes;
     let mut i: usize = 0;
     while i < n {
-        let source = judge_entry(register, i);
+        let source = judge_entry(register, base, i, first);
         let good = source.good;
         let line = source.line;
         if !good {
@@ -104,6 +98,7 @@ pub fn judge_sources(register: &[u8], kept: &mut [u64]) -> Verdict
         let figures = source.figures;
         keep(kept, FIGURES * i, &figures);
         waiting = waits(waiting, source.fault, i);
+        first = line;
         i += 1;
     }
     waiting

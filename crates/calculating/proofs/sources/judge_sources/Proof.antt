@@ -2,16 +2,17 @@ use Prim.Native.Nat.{_-_}
 use native.Mathlib.Omega.{arith}
 use borrow.Author.Tests.{not-true, not-false}
 use mathlib.Core.Path.{_≡_}
-use Rattle.meaning.specs.Register.{sourceCount}
-use Rattle.calculating.proofs.Pass.{Passing, passing-bad, passing-more, passing-all, passing}
+use Rattle.meaning.specs.Register.{linesAt, sourceCount, lineStart}
+use Rattle.calculating.proofs.Pass.{Passing, begins-first, begins-next, passing-bad, passing-more, passing-all, passing}
 use Rattle.calculating.proofs.sources.judge_sources.Statement.{statement}
 use Rattle.calculating.proofs.sources.judge_sources.Tie as tie
 
 abbrev Inv-loop : tie.InvT-loop
-Inv-loop register kept₀ n waiting₀ i₀ kept waiting i = Passing register kept₀ waiting kept i × (n ≡ sourceCount register)
+Inv-loop register kept₀ n base first₀ waiting₀ i₀ kept first waiting i =
+    Passing register kept₀ waiting kept i × (n ≡ sourceCount register) × (base ≡ linesAt (sourceCount register)) × (first ≡ lineStart register i)
 
 abbrev μ-loop : tie.MeasureT-loop
-μ-loop register kept₀ n waiting₀ i₀ kept waiting i = n - i
+μ-loop register kept₀ n base first₀ waiting₀ i₀ kept first waiting i = n - i
 
 pub judge-sources-spec : {M : Type 1} → statement M
 judge-sources-spec =
@@ -20,8 +21,10 @@ judge-sources-spec =
     Inv-loop
     μ-loop
     (λ c κs. omega arith)
-    (λ c. search passing)
-    (λ c κs. search passing)
+    (λ c. omega arith)
+    (λ c. omega arith)
+    (λ c. (search passing, search passing, omega arith, begins-first _))
+    (λ c κs. (search passing, omega arith, search passing))
     (λ c. search passing)
     (λ c. passing-bad (c .before .before .before .before .before .before .before .pre .0) (c .before .before .before .loop .inv .0) (omega arith) (c .before .judge-entry .ensures) (not-true _ (c .if1 .taken)))
     (λ c. omega arith)
@@ -30,6 +33,6 @@ judge-sources-spec =
     (λ c κs. search passing)
     (λ c. omega arith)
     (λ c. omega arith)
-    (λ c. (passing-more (c .before .before .before .before .before .before .before .before .before .before .before .before .before .before .pre .0) (search passing) (omega arith) (c .before .before .before .before .before .before .before .before .judge-entry .ensures) (not-false _ (c .before .before .before .before .before .before .before .if1 .left)) (c .before .before .before .keep .ensures) (c .waits .ensures), search passing))
+    (λ c. (passing-more (c .before .before .before .before .before .before .before .before .before .before .before .before .before .before .pre .0) (search passing) (omega arith) (c .before .before .before .before .before .before .before .before .judge-entry .ensures) (not-false _ (c .before .before .before .before .before .before .before .if1 .left)) (c .before .before .before .keep .ensures) (c .waits .ensures), search passing, search passing, begins-next (c .before .before .before .before .before .before .before .before .before .before .before .before .before .before .pre .0) (omega arith) (c .before .before .before .before .before .before .before .before .judge-entry .ensures) (not-false _ (c .before .before .before .before .before .before .before .if1 .left))))
     (λ c. search passing)
     (λ c. passing-all (c .before .before .before .before .before .pre .0) (c .before .loop .inv .0) (omega arith)))
