@@ -14,7 +14,8 @@ use Rattle.basis.specs.declared.Verdict.{Verdict}
 use Rattle.basis.specs.declared.Verdict.the-variants.{Passes, Refuses}
 use Rattle.basis.specs.First.{first, NoneBelow}
 use Rattle.basis.specs.Lists.{Each}
-use Rattle.basis.specs.Answers.{refuseIf, refuseAtFirst, firstRefusal, Outcome, Gives, Shows}
+use Rattle.basis.specs.Answers.{refuseIf, refuseAtFirst, firstRefusal, passes, Outcome, Gives, Shows}
+use Rattle.basis.proofs.Bools.{clash}
 use Rattle.basis.proofs.First.{first-≤, first-hits, first-misses, first-is, first-end}
 
 -- test i of a call refuses with this number and place, and each test before it passes
@@ -76,6 +77,10 @@ unfolding firstRefusal
 refused-then [] us e = absurd (never e)
 refused-then (Passes ∷ ts) us e = refused-then ts us e
 refused-then (Refuses n p ∷ ts) us e = e
+
+pub passes-is : (v : Verdict) → passes v ≡ true → v ≡ Passes
+passes-is Passes e = refl
+passes-is (Refuses n p) e = absurd (clash e refl)
 
 -- tests that all pass, one by one
 pub each-passes : (vs : List Verdict) → firstRefusal vs ≡ Passes → Each (λ v. v ≡ Passes) vs

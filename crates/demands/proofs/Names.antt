@@ -14,7 +14,7 @@ use Rattle.basis.specs.declared.Verdict.{Verdict}
 use Rattle.basis.specs.declared.Verdict.the-variants.{Passes, Refuses}
 use Rattle.basis.specs.Answers.{firstRefusal, passes}
 use Rattle.basis.proofs.First.{first-hits, first-misses, first-is}
-use Rattle.basis.proofs.Answers.{never}
+use Rattle.basis.proofs.Answers.{never, passes-is}
 use Rattle.basis.proofs.Bools.{clash, not-both}
 use Rattle.meaning.specs.declared.Part.{Part}
 use Rattle.meaning.specs.declared.Found.{Found}
@@ -29,10 +29,6 @@ use Rattle.demands.proofs.Registers.{Passed, passed, distinct-lt}
 use Rattle.demands.proofs.Calculation.{standing}
 
 -- a register is accepted exactly where no row of 1 to 4 refuses it
-passes-is : (v : Verdict) → passes v ≡ true → v ≡ Passes
-passes-is Passes e = refl
-passes-is (Refuses n p) e = absurd (clash e refl)
-
 accepted-passes : (b : List ℕ) → accepted b ≡ true → firstRefusal (registerTests b) ≡ Passes
 unfolding accepted
 accepted-passes b e = passes-is (firstRefusal (registerTests b)) e

@@ -1,6 +1,6 @@
 -- The lookups: a register that is accepted, a number in it, and where its name stands. Assumes nothing.
 use mathlib.Core.Bool.{Bool, true, false, cond, not, _&&_}
-use mathlib.Core.List.{List}
+use mathlib.Core.List.{List, []}
 use mathlib.Core.Path.{_≡_, refl, sym, ap, _∙_}
 use Prim.Native.Nat.{ℕ, _+_, _≤_, _<_}
 use native.Mathlib.Omega.{arith}
@@ -11,35 +11,42 @@ use lib.ListN.{length}
 use Rattle.basis.specs.declared.Verdict.{Verdict}
 use Rattle.basis.specs.declared.Verdict.the-variants.{Passes, Refuses}
 use Rattle.basis.specs.Answers.{firstRefusal, passes}
+use Rattle.basis.proofs.Answers.{passes-is}
 use Rattle.basis.proofs.Bools.{clash, and-true, or-false}
 use Rattle.fields.specs.Fields.{Field}
 use Rattle.meaning.specs.declared.Part.{Part}
 use Rattle.meaning.specs.declared.Found.{Found}
-use Rattle.meaning.specs.Register.{sourceCount, sourceEntry, namePlace, sourceAt, misplaced, unsound, wrongSource, registerTests}
+use Rattle.meaning.specs.Register.{sourceCount, sourceEntry, namePlace, sourceAt, misplaced, unsound, wrongSource, sourcesOf, repeatTest, registerTests}
 use Rattle.meaning.specs.Calls.{accepted, hasNumber, indexOf, holds, nameAt, found, inRegister, foundOfTwo}
 use Rattle.meaning.proofs.Registers.{right-register}
 use Rattle.meaning.proofs.Sources.{Placed, placed}
 use Rattle.registers.specs.declared.Sought.{Sought}
-use Rattle.registers.specs.Layout.{Headed}
+use Rattle.registers.specs.Layout.{layoutTests, Headed}
 use Rattle.registers.specs.Keys.{Tested}
 use Rattle.registers.specs.Lookups.{Seeks}
 use Rattle.registers.proofs.sources.Entries.{has-entry}
 use Rattle.basis.proofs.Scans.{Scanning, scan-none, scan-found, scan-more, scan-all}
-use Rattle.registers.proofs.Tested.{passed-headed}
+use Rattle.registers.proofs.Tested.{layout-headed, layout-refused, layout-passed, passed-headed}
 
 pub accepted-is : {b keys left : List ℕ} {v : Verdict} {ok : Bool} → Tested b keys v left → ok ≡ passes v → ok ≡ accepted b
 unfolding accepted
 accepted-is t e = e ∙ ap passes (t .verdict)
 
+-- the same from tests 1 to 3 and whether test 4 passes
+module _ (b : List ℕ) {v : Verdict} (e : v ≡ firstRefusal (layoutTests b)) where
+  pub accepts-none : {n p : ℕ} → v ≡ Refuses n p → false ≡ accepted b
+  accepts-none f = accepted-is (layout-refused b e {keys = []} f) (rw f)
+
+  pub accepts-last : {ok : Bool} → v ≡ Passes → ok ≡ passes (repeatTest (sourcesOf b)) → ok ≡ accepted b
+  accepts-last f g = accepted-is (layout-passed b e {keys = []} f (record { verdict = refl; order = refl })) g
+
+pub ruleset accepting = (needs, layout-headed, accepts-none, accepts-last)
+
 -- what a register that is accepted keeps
 module _ (b : List ℕ) (e : accepted b ≡ true) where
   accepted-passes : firstRefusal (registerTests b) ≡ Passes
   unfolding accepted
-  accepted-passes = by (firstRefusal (registerTests b)) e
-    where
-      by : (v : Verdict) → passes v ≡ true → v ≡ Passes
-      by Passes f = refl
-      by (Refuses n p) f = absurd (clash f refl)
+  accepted-passes = passes-is (firstRefusal (registerTests b)) e
 
   pub accepted-headed : Headed b
   accepted-headed = passed-headed b accepted-passes
