@@ -1,32 +1,34 @@
 -- The lookups: a register that is accepted, a number in it, and where its name stands. Assumes nothing.
 use mathlib.Core.Bool.{Bool, true, false, cond, not, _&&_}
 use mathlib.Core.List.{List, []}
+use mathlib.Core.Logic.{_≢_}
 use mathlib.Core.Path.{_≡_, refl, sym, ap, _∙_}
 use Prim.Native.Nat.{ℕ, _+_, _≤_, _<_}
 use native.Mathlib.Omega.{arith}
 use borrow.Author.Needs.{needs}
 use borrow.Author.Tests.{ltb-true, lt-ltb, le-ltb}
 use lib.Dec.{eqb, ltb}
-use lib.ListN.{length}
+use lib.ListN.{length, getD}
 use Rattle.basis.specs.declared.Verdict.{Verdict}
 use Rattle.basis.specs.declared.Verdict.the-variants.{Passes, Refuses}
 use Rattle.basis.specs.Answers.{firstRefusal, passes}
 use Rattle.basis.proofs.Answers.{passes-is}
 use Rattle.basis.proofs.Bools.{clash, and-true, or-false}
 use Rattle.fields.specs.Fields.{Field}
+use Rattle.twice.specs.Twice.{Nonzero}
 use Rattle.meaning.specs.declared.Part.{Part}
 use Rattle.meaning.specs.declared.Found.{Found}
-use Rattle.meaning.specs.Register.{sourceCount, sourceEntry, namePlace, sourceAt, misplaced, unsound, wrongSource, sourcesOf, repeatTest, registerTests}
+use Rattle.meaning.specs.Register.{sourceCount, sourceEntry, numberIn, namePlace, sourceAt, misplaced, unsound, wrongSource, sourcesOf, repeatTest, registerTests}
 use Rattle.meaning.specs.Calls.{accepted, hasNumber, indexOf, holds, nameAt, found, inRegister, foundOfTwo}
 use Rattle.meaning.proofs.Registers.{right-register}
-use Rattle.meaning.proofs.Sources.{Placed, placed}
+use Rattle.meaning.proofs.Sources.{Placed, placed, length-numbers, number-at, sound-parts}
 use Rattle.registers.specs.declared.Sought.{Sought}
 use Rattle.registers.specs.Layout.{layoutTests, Headed}
-use Rattle.registers.specs.Keys.{Tested}
+use Rattle.registers.specs.Keys.{numbersOf, Tested}
 use Rattle.registers.specs.Lookups.{Seeks}
 use Rattle.registers.proofs.sources.Entries.{has-entry}
 use Rattle.basis.proofs.Scans.{Scanning, scan-none, scan-found, scan-more, scan-all}
-use Rattle.registers.proofs.Tested.{layout-headed, layout-refused, layout-passed, passed-headed}
+use Rattle.registers.proofs.Tested.{layout-headed, layout-right, layout-refused, layout-passed, passed-headed}
 
 pub accepted-is : {b keys left : List ℕ} {v : Verdict} {ok : Bool} → Tested b keys v left → ok ≡ passes v → ok ≡ accepted b
 unfolding accepted
@@ -37,10 +39,22 @@ module _ (b : List ℕ) {v : Verdict} (e : v ≡ firstRefusal (layoutTests b)) w
   pub accepts-none : {n p : ℕ} → v ≡ Refuses n p → false ≡ accepted b
   accepts-none f = accepted-is (layout-refused b e {keys = []} f) (rw f)
 
+  -- test 3 refuses a source whose number is 0
+  pub layout-nonzero : v ≡ Passes → Nonzero (numbersOf b)
+  unfolding wrongSource sourceAt
+  layout-nonzero f = record { some = some }
+    where
+      some : (i : ℕ) → i < length (numbersOf b) → getD (numbersOf b) i 0 ≢ 0
+      some i l g =
+          let m : i < sourceCount b = omega (arith, length-numbers b) in
+          let s = or-false (misplaced b i) (unsound (sourceAt b i)) (layout-right b e f i m) .1 in
+          let n : 0 < numberIn (sourceEntry b i) = sound-parts (sourceAt b i) s .number in
+          omega (arith, sym (number-at b i m) ∙ g)
+
   pub accepts-last : {ok : Bool} → v ≡ Passes → ok ≡ passes (repeatTest (sourcesOf b)) → ok ≡ accepted b
   accepts-last f g = accepted-is (layout-passed b e {keys = []} f (record { verdict = refl; order = refl })) g
 
-pub ruleset accepting = (needs, layout-headed, accepts-none, accepts-last)
+pub ruleset accepting = (needs, layout-headed, layout-nonzero, accepts-none, accepts-last)
 
 -- what a register that is accepted keeps
 module _ (b : List ℕ) (e : accepted b ≡ true) where

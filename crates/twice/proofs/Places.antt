@@ -1,5 +1,5 @@
 -- Numbers that take places: each stays where its places are looked through, so one that finds a free place is new. Assumes nothing.
-use mathlib.Core.Bool.{Bool, true, false, cond, not, _&&_, _||_}
+use mathlib.Core.Bool.{Bool, true, false, cond, not, _||_}
 use mathlib.Core.List.{List}
 use mathlib.Core.Logic.{_≢_}
 use mathlib.Core.Path.{_≡_, refl, sym, _∙_}
@@ -14,7 +14,7 @@ use lib.Seq.{getD-set-same, getD-set-other}
 use Rattle.basis.proofs.Bools.{or-false}
 use Rattle.twice.specs.declared.Standing.{Standing}
 use Rattle.twice.specs.declared.Standing.the-variants.{Twice, Open}
-use Rattle.twice.specs.Twice.{Differing, Says, steps, placeCount, homeOf, Home, Empty, Passed}
+use Rattle.twice.specs.Twice.{Differing, Nonzero, Says, steps, placeCount, homeOf, Home, Empty, Passed}
 
 -- x stands behind its first place, with no free place between
 pub record Stands (places : List ℕ) (x : ℕ) : Type 0 where
@@ -117,15 +117,17 @@ pub ruleset passing = (needs, home-is, pass-none, pass-more)
 
 -- the numbers before i stand, none twice, and no other does
 pub record Kept (ns t : List ℕ) (i : ℕ) : Type 0 where
+  pub nonzero : Nonzero ns
   pub high : i ≤ length ns
   pub all : length t ≡ placeCount
   pub once : (j k : ℕ) → j < k → k < i → getD ns j 0 ≢ getD ns k 0
   pub each : (j : ℕ) → j < i → Stands t (getD ns j 0)
   pub only : (p : ℕ) → getD t p 0 ≢ 0 → (j : ℕ) × (j < i) × (getD ns j 0 ≡ getD t p 0)
 
-pub keep-none : {ns t : List ℕ} → Empty t → Kept ns t 0
-keep-none e =
+pub keep-none : {ns t : List ℕ} → Nonzero ns → Empty t → Kept ns t 0
+keep-none n e =
     record {
+      nonzero = n;
       high = omega arith;
       all = e .all;
       once = λ j k l m. absurd (omega arith);
@@ -146,16 +148,15 @@ module _ {ns t : List ℕ} {i : ℕ} (k : Kept ns t i) where
           let r = k .only p (λ g. h (e ∙ g)) in
           (r .0, omega (arith, r .1), r .2 ∙ sym e)
 
-  pub keep-more : {at : ℕ} → i < length ns → Passed t (getD ns i 0) at → not (eqb (getD t at 0) 0) || eqb (getD ns i 0) 0 ≡ false
+  pub keep-more : {at : ℕ} → i < length ns → Passed t (getD ns i 0) at → not (eqb (getD t at 0) 0) ≡ false
       → Kept ns (set t at (getD ns i 0)) (i + 1)
   keep-more {at} l p e =
       let x = getD ns i 0 in
-      let c = or-false (not (eqb (getD t at 0) 0)) (eqb x 0) e in
-      let free : getD t at 0 ≡ 0 = eqb-true (getD t at 0) 0 (not-false (eqb (getD t at 0) 0) (c .0)) in
-      let some : x ≢ 0 = eqb-false x 0 (c .1) in
-      let last : Stands (set t at x) x = comes t at x free some p in
+      let free : getD t at 0 ≡ 0 = eqb-true (getD t at 0) 0 (not-false (eqb (getD t at 0) 0) e) in
+      let last : Stands (set t at x) x = comes t at x free (k .nonzero .some i l) p in
       let new : (j : ℕ) → j < i → getD ns j 0 ≢ x = λ j m f. passed-new p free (rw f at (k .each j m)) in
       record {
+        nonzero = k .nonzero;
         high = omega arith;
         all = length-set t at x ∙ k .all;
         once = λ j m a b. further (λ q. getD ns j 0 ≢ getD ns q 0) {from = j + 1} (λ q d. k .once j q (omega arith)) (new j (omega arith)) m (omega arith) b;
@@ -167,15 +168,15 @@ module _ {ns t : List ℕ} {i : ℕ} (k : Kept ns t i) where
   keep-all l = record { differ = λ j m a b. k .once j m a (omega arith) }
 
   -- a number that stands there already stood earlier
-  pub keep-away : (at : ℕ) {r : Standing} → i < length ns → r ≡ cond (not (eqb (getD t at 0) 0) && eqb (getD t at 0) (getD ns i 0)) Twice Open → Says r ns
-  keep-away at l e = rw e (by (not (eqb (getD t at 0) 0)) refl (eqb (getD t at 0) (getD ns i 0)) refl)
+  pub keep-away : (at : ℕ) {r : Standing} → i < length ns → not (eqb (getD t at 0) 0) ≡ true
+      → r ≡ cond (eqb (getD t at 0) (getD ns i 0)) Twice Open → Says r ns
+  keep-away at l h e = rw e (by (eqb (getD t at 0) (getD ns i 0)) refl)
     where
-      by : (a : Bool) → not (eqb (getD t at 0) 0) ≡ a → (c : Bool) → eqb (getD t at 0) (getD ns i 0) ≡ c → Says (cond (a && c) Twice Open) ns
-      by true f true g =
-          let s = k .only at (eqb-false (getD t at 0) 0 (not-true (eqb (getD t at 0) 0) f)) in
+      by : (c : Bool) → eqb (getD t at 0) (getD ns i 0) ≡ c → Says (cond c Twice Open) ns
+      by true g =
+          let s = k .only at (eqb-false (getD t at 0) 0 (not-true (eqb (getD t at 0) 0) h)) in
           record { early = s .0; late = i; before = s .1; within = l; same = s .2 ∙ eqb-true (getD t at 0) (getD ns i 0) g }
-      by true f false g = tt
-      by false f c g = tt
+      by false g = tt
 
 pub all-free : Empty (replicate placeCount 0)
 all-free = record { all = length-replicate {A = ℕ} placeCount 0; free = free placeCount }

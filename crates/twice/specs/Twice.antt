@@ -19,6 +19,10 @@ pub record Repeating (ns : List ℕ) : Type 0 where
   pub within : late < length ns
   pub same : getD ns early 0 ≡ getD ns late 0
 
+-- 0 is none of them
+pub record Nonzero (ns : List ℕ) : Type 0 where
+  pub some : (i : ℕ) → i < length ns → getD ns i 0 ≢ 0
+
 -- what each answer says of numbers; where it is open, nothing
 abbrev pub Says : Standing → List ℕ → Type 0
 Says Once ns = Differing ns

@@ -1,12 +1,12 @@
 // Whether numbers all differ, without putting them in order: each takes a free place close behind one that it names itself.
-ghost use mathlib.Core.Bool.{cond, not, _&&_};
+ghost use mathlib.Core.Bool.{cond};
 ghost use mathlib.Core.Path.{_≡_};
 ghost use lib.ListN.{length};
 ghost use lib.Dec.{eqb};
 ghost use Rattle.twice.specs.declared.Standing.the-variants.{Twice, Open};
-ghost use Rattle.twice.specs.Twice.{Says, placeCount, Home, Empty, Passed};
+ghost use Rattle.twice.specs.Twice.{Nonzero, Says, placeCount, Home, Empty, Passed};
 
-// Whether each of some numbers stands once, or one stands twice. Open where too many want the same places, or where 0 is among them.
+// Whether each of some numbers stands once, or one stands twice. Open where too many want the same places.
 pub enum Standing {
     Once,
     Twice,
@@ -45,19 +45,20 @@ fn place_for(places: &[u64], number: u64) -> usize
     at
 }
 
-// A number that is not let to a place stands there already, if the place is not free.
+// A number that comes to a taken place stands there already, or it has none left.
 fn turned_away(found: u64, number: u64) -> Standing
-    ensures { λ r. ⌜ r ≡ cond (not (eqb found 0) && eqb found number) Twice Open ⌝ }
+    ensures { λ r. ⌜ r ≡ cond (eqb found number) Twice Open ⌝ }
 {
-    let repeated = (found != 0) & (found == number);
+    let repeated = found == number;
     if repeated {
         return Standing::Twice;
     }
     Standing::Open
 }
 
-// Each number in turn takes a place that is free. 0 is what stands in a free place, so as a number it is turned away.
+// Each number in turn takes a place that is free. 0 is what stands in a free place, so it may not be a number.
 fn place_all(numbers: &[u64], places: &mut [u64]) -> Standing
+    requires { ⌜ Nonzero (now numbers) ⌝ }
     requires { ⌜ Empty (now places) ⌝ }
     ensures { λ r. ⌜ Says r (now (numbers .entry)) ⌝ }
 {
@@ -66,8 +67,8 @@ fn place_all(numbers: &[u64], places: &mut [u64]) -> Standing
         let number = numbers[i];
         let at = place_for(places, number);
         let found = places[at];
-        let denied = (found != 0) | (number == 0);
-        if denied {
+        let taken = found != 0;
+        if taken {
             return turned_away(found, number);
         }
         places[at] = number;
@@ -76,8 +77,9 @@ fn place_all(numbers: &[u64], places: &mut [u64]) -> Standing
     Standing::Once
 }
 
-// Whether a number stands at two indices.
+// Whether a number stands at two indices. The places are 1,024 first ones and STEPS behind the last of them.
 pub fn standing_of(numbers: &[u64]) -> Standing
+    requires { ⌜ Nonzero (now numbers) ⌝ }
     ensures { λ r. ⌜ Says r (now (numbers .entry)) ⌝ }
 {
     let mut places = [0u64; 1088];

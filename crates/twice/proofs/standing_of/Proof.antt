@@ -8,5 +8,5 @@ standing-of-spec =
     tie.close
     (tie.spec
     (search needs)
-    (λ c κs. all-free)
+    (λ c κs. (search needs, all-free))
     (λ c. search needs))
