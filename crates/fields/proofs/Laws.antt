@@ -104,11 +104,7 @@ writing-then {bs = bs} {p = p} {zs = zs} {rest = rest} w v =
       whole = rw (v .is, splice-splice bs p zs rest q) (w .whole);
     }
 
--- and where it is all that is left, the whole is written
-pub writing-last : {bs₀ : List ℕ} {at : ℕ} {ys bs : List ℕ} {p : ℕ} {rest cs : List ℕ} → Writing bs₀ at ys bs p rest → Written bs p rest cs
-    → Written bs₀ at ys cs
-writing-last w v = record { fits = w .fits; is = v .is ∙ w .whole }
-
+-- and where nothing is left, the whole is written
 pub writing-all : {bs₀ : List ℕ} {at : ℕ} {ys bs : List ℕ} {p : ℕ} → Writing bs₀ at ys bs p [] → Written bs₀ at ys bs
 writing-all {bs = bs} {p = p} w = record { fits = w .fits; is = sym (splice-none bs p) ∙ w .whole }
 

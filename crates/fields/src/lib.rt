@@ -39,13 +39,6 @@ pub fn u16_at(s: &[u8], at: usize) -> u64
     number_at(s, at, 2)
 }
 
-pub fn u24_at(s: &[u8], at: usize) -> u64
-    requires { ⌜ at + 3 ≤ length (now s) ⌝ }
-    ensures { λ r. ⌜ Field 3 (now (s .entry)) at r ⌝ }
-{
-    number_at(s, at, 3)
-}
-
 pub fn u32_at(s: &[u8], at: usize) -> u64
     requires { ⌜ at + 4 ≤ length (now s) ⌝ }
     ensures { λ r. ⌜ Field 4 (now (s .entry)) at r ⌝ }
