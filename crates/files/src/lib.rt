@@ -45,7 +45,9 @@ enum Made {
 }
 
 // One line on standard error.
-pub fn complain(line: &[u8]) {
+pub fn complain(line: &[u8])
+    ensures { λ _. ⌜ now (line .exit) ≡ now (line .entry) ⌝ }
+{
     io::write_all(STDERR_FILENO, line);
 }
 
@@ -56,12 +58,16 @@ fn complain_unless(written: bool) {
 }
 
 // All that a command has to say on standard output.
-pub fn say(text: &[u8]) {
+pub fn say(text: &[u8])
+    ensures { λ _. ⌜ now (text .exit) ≡ now (text .entry) ⌝ }
+{
     complain_unless(io::write_all(STDOUT_FILENO, text));
 }
 
 // Bytes and the line feed behind them, on standard output.
-pub fn say_line(text: &[u8]) {
+pub fn say_line(text: &[u8])
+    ensures { λ _. ⌜ now (text .exit) ≡ now (text .entry) ⌝ }
+{
     complain_unless(io::write_all(STDOUT_FILENO, text) && io::write_all(STDOUT_FILENO, b"\n"));
 }
 
@@ -93,8 +99,8 @@ pub fn read_all(fd: i32, room: &mut [u8]) -> Input
     Input::Came(at)
 }
 
-// Word i of the command line, whole.
-fn read_word(i: usize, room: &mut [u8]) -> Input
+// Word i of the command line, whole. Where it cannot be had, a line on standard error says so.
+pub fn read_word(i: usize, room: &mut [u8]) -> Input
     ensures { λ r. ⌜ Within r (now (room .exit)) ⌝ }
 {
     let n = os::arg(i, room);
@@ -140,7 +146,7 @@ fn wide(byte: u8) -> u64
 }
 
 // A word of plain digits is a number, up to the largest that a source can have.
-pub fn number_in(word: &[u8]) -> Numeral
+fn number_in(word: &[u8]) -> Numeral
     ensures { λ r. ⌜ r ≡ numberIn (now (word .entry)) ⌝ }
 {
     if word.len() == 0 {
@@ -165,16 +171,13 @@ pub fn number_in(word: &[u8]) -> Numeral
     Numeral::Number(n as u32)
 }
 
-// The number that word i says. Where it is none, a line on standard error says so.
-pub fn read_number(i: usize) -> Numeral {
-    let mut room = io::buffer();
-    let word = read_word(i, &mut room);
-    let Input::Came(n) = word else {
-        return Numeral::NoNumber;
-    };
-    let numeral = number_in(&room[..n]);
+// The number that a word says. Where it is none, a line on standard error says so.
+pub fn number_said(word: &[u8]) -> Numeral
+    ensures { λ r. ⌜ r ≡ numberIn (now (word .entry)) ⌝ }
+{
+    let numeral = number_in(word);
     if let Numeral::NoNumber = numeral {
-        complain(&room[..n]);
+        complain(word);
         complain(b": no number from 0 to 4294967295\n");
     }
     numeral
@@ -267,6 +270,7 @@ fn keep_file(i: usize, bytes: &[u8]) -> bool {
 // Ends a command that makes a report. An acceptance is said when the result, which word i names, is in its place.
 pub fn settle(answer: Answer, report: &[u8], i: usize)
     requires { ⌜ Front (answer .length) (now report) ⌝ }
+    ensures { λ _. ⌜ now (report .exit) ≡ now (report .entry) ⌝ }
 {
     let number = answer.number;
     if number == 0 {

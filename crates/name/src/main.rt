@@ -33,7 +33,12 @@ fn main() {
         files::complain(b"use: name NUMBER REGISTER [REGISTER]\n");
         return;
     }
-    let numeral = files::read_number(1);
+    let mut word = io::buffer();
+    let said = files::read_word(1, &mut word);
+    let Input::Came(k) = said else {
+        return;
+    };
+    let numeral = files::number_said(&word[..k]);
     let Numeral::Number(number) = numeral else {
         return;
     };

@@ -14,7 +14,12 @@ fn main() {
         files::complain(b"use: remove REPORT NUMBER RESULT\n");
         return;
     }
-    let numeral = files::read_number(2);
+    let mut word = io::buffer();
+    let said = files::read_word(2, &mut word);
+    let Input::Came(k) = said else {
+        return;
+    };
+    let numeral = files::number_said(&word[..k]);
     let Numeral::Number(number) = numeral else {
         return;
     };

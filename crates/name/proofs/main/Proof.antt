@@ -1,10 +1,10 @@
 use borrow.Author.Needs.{needs}
 use Rattle.files.proofs.Coming.{coming}
-use Rattle.files.proofs.read_number.Statement.{statement}
-use Rattle.files.proofs.read_number.Tie as tie
+use Rattle.name.proofs.main.Statement.{statement}
+use Rattle.name.proofs.main.Tie as tie
 
-pub read-number-spec : {M : Type 1} → statement M
-read-number-spec =
+pub main-spec : {M : Type 1} → statement M
+main-spec =
     tie.close
     (tie.spec
     (search needs)
@@ -13,12 +13,14 @@ read-number-spec =
     (search needs)
     (search needs)
     (search needs)
-    (λ c. search coming)
-    (λ c. search coming)
+    (search needs)
+    (search needs)
     (search needs)
     (search needs)
     (λ c. search coming)
     (λ c. search coming)
+    (search needs)
+    (search needs)
     (search needs)
     (search needs)
     (search needs)
