@@ -65,8 +65,8 @@ fn make_call(call: u64, first: &[u8], second: &[u8], number: u32, buffer: &mut [
         3 => answered(combining::remove(first, number, buffer)),
         4 => answered(reports::check(first)),
         5 => texted(texts::text(first, buffer)),
-        6 => named(registers::name_place(first, number)),
-        _ => named_of_two(registers::name_place_of_two(first, second, number)),
+        6 => named(names::name_place(first, number)),
+        _ => named_of_two(names::name_place_of_two(first, second, number)),
     }
 }
 

@@ -51,7 +51,7 @@ pub extern "C" fn kopristen_text(report: &[u8], buffer: &mut [u8]) -> Answer
 pub extern "C" fn kopristen_name(register: &[u8], number: u32) -> Part
     ensures { λ r. ⌜ r ≡ found (now (register .entry)) number ⌝ }
 {
-    registers::name_place(register, number)
+    names::name_place(register, number)
 }
 
 // "the name is a part of whichever register holds the number"; 1, 0 and 0 where there is none.
@@ -59,5 +59,5 @@ pub extern "C" fn kopristen_name(register: &[u8], number: u32) -> Part
 pub extern "C" fn kopristen_name_of_two(plant: &[u8], contractor: &[u8], number: u32) -> Found
     ensures { λ r. ⌜ r ≡ foundOfTwo (now (plant .entry)) (now (contractor .entry)) number ⌝ }
 {
-    registers::name_place_of_two(plant, contractor, number)
+    names::name_place_of_two(plant, contractor, number)
 }

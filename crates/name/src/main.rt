@@ -10,7 +10,7 @@ fn name_in_one(number: u32) {
     let Input::Came(n) = input else {
         return;
     };
-    files::say_line(registers::name_of(&register[..n], number));
+    files::say_line(names::name_of(&register[..n], number));
 }
 
 fn name_in_either(number: u32) {
@@ -24,7 +24,7 @@ fn name_in_either(number: u32) {
     let Input::Came(m) = other else {
         return;
     };
-    files::say_line(registers::name_of_either(&plant[..n], &contractor[..m], number));
+    files::say_line(names::name_of_either(&plant[..n], &contractor[..m], number));
 }
 
 fn main() {

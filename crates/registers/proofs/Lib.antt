@@ -1,4 +1,3 @@
 pub mod LaidOut
 pub mod Tested
-pub mod Names
 pub mod Passed

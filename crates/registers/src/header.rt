@@ -6,7 +6,7 @@ ghost use lib.Dec.{eqb};
 ghost use lib.ListN.{length, drop};
 ghost use Rattle.basis.specs.declared.Verdict.the-variants.{Refuses};
 ghost use Rattle.basis.specs.Bytes.{numberAt};
-ghost use Rattle.basis.specs.Answers.{firstRefusal, passes};
+ghost use Rattle.basis.specs.Answers.{firstRefusal};
 ghost use Rattle.meaning.specs.Register.{sourcesAt, headerTests};
 ghost use Rattle.registers.specs.Layout.{Counted};
 use basis::Verdict;
@@ -29,18 +29,6 @@ pub fn refuse_if(wrong: bool, number: u32, place: u64, later: Verdict) -> Verdic
         return Verdict::Refuses { number, place };
     }
     later
-}
-
-pub fn is_passed(verdict: Verdict) -> bool
-    ensures { λ r. ⌜ r ≡ passes verdict ⌝ }
-{
-    match verdict {
-        Verdict::Passes => true,
-        Verdict::Refuses {
-            number: _,
-            place: _,
-        } => false,
-    }
 }
 
 // A header field of 4 bytes that has to be the number due there.

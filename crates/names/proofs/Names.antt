@@ -1,0 +1,221 @@
+-- The lookups: a register that is accepted, a number in it, and where its name stands. Assumes nothing.
+use mathlib.Core.Bool.{Bool, true, false, cond, not, _&&_}
+use mathlib.Core.List.{List, []}
+use mathlib.Core.Logic.{_≢_}
+use mathlib.Core.Path.{_≡_, refl, sym, ap, _∙_}
+use Prim.Native.Nat.{ℕ, _+_, _≤_, _<_}
+use native.Mathlib.Omega.{arith}
+use borrow.Author.Needs.{needs}
+use borrow.Author.Tests.{ltb-true, lt-ltb, le-ltb}
+use lib.Dec.{eqb, ltb}
+use lib.ListN.{length, getD}
+use Rattle.basis.specs.declared.Verdict.{Verdict}
+use Rattle.basis.specs.declared.Verdict.the-variants.{Passes, Refuses}
+use Rattle.basis.specs.Answers.{firstRefusal, passes}
+use Rattle.basis.proofs.Answers.{passes-is}
+use Rattle.basis.proofs.Bools.{clash, and-true, or-false}
+use Rattle.basis.proofs.Scans.{Scanning, scan-none, scan-found, scan-more, scan-all}
+use Rattle.fields.specs.Fields.{Field}
+use Rattle.twice.specs.Twice.{Nonzero}
+use Rattle.meaning.specs.declared.Part.{Part}
+use Rattle.meaning.specs.declared.Found.{Found}
+use Rattle.meaning.specs.Register.{sourceCount, sourceEntry, numberIn, namePlace, sourceAt, misplaced, unsound, wrongSource, sourcesOf, repeatTest, registerTests}
+use Rattle.meaning.specs.Calls.{accepted, hasNumber, indexOf, holds, nameAt, found, inRegister, foundOfTwo}
+use Rattle.meaning.proofs.Registers.{right-register}
+use Rattle.meaning.proofs.Sources.{Placed, placed, length-numbers, number-at, sound-parts}
+use Rattle.registers.specs.Layout.{layoutTests, Headed, HasEntry}
+use Rattle.registers.specs.Keys.{Tested}
+use Rattle.registers.proofs.Tested.{layout-headed, layout-right, layout-refused, layout-passed, passed-headed}
+use Rattle.names.specs.declared.Sought.{Sought}
+use Rattle.names.specs.Numbers.{numbersOf}
+use Rattle.names.specs.Lookups.{Seeks}
+
+pub accepted-is : {b keys left : List ℕ} {v : Verdict} {ok : Bool} → Tested b keys v left → ok ≡ passes v → ok ≡ accepted b
+unfolding accepted
+accepted-is t e = e ∙ ap passes (t .verdict)
+
+-- the same from tests 1 to 3 and whether test 4 passes
+module _ (b : List ℕ) {v : Verdict} (e : v ≡ firstRefusal (layoutTests b)) where
+  pub accepts-none : {n p : ℕ} → v ≡ Refuses n p → false ≡ accepted b
+  accepts-none f = accepted-is (layout-refused b e {keys = []} f) (rw f)
+
+  -- test 3 refuses a source whose number is 0
+  pub layout-nonzero : v ≡ Passes → Nonzero (numbersOf b)
+  unfolding wrongSource sourceAt
+  layout-nonzero f = record { some = some }
+    where
+      some : (i : ℕ) → i < length (numbersOf b) → getD (numbersOf b) i 0 ≢ 0
+      some i l g =
+          let m : i < sourceCount b = omega (arith, length-numbers b) in
+          let s = or-false (misplaced b i) (unsound (sourceAt b i)) (layout-right b e f i m) .1 in
+          let n : 0 < numberIn (sourceEntry b i) = sound-parts (sourceAt b i) s .number in
+          omega (arith, sym (number-at b i m) ∙ g)
+
+  pub accepts-last : {ok : Bool} → v ≡ Passes → ok ≡ passes (repeatTest (sourcesOf b)) → ok ≡ accepted b
+  accepts-last f g = accepted-is (layout-passed b e {keys = []} f (record { verdict = refl; order = refl })) g
+
+pub ruleset accepting = (needs, layout-headed, layout-nonzero, accepts-none, accepts-last)
+
+-- what a register that is accepted keeps
+module _ (b : List ℕ) (e : accepted b ≡ true) where
+  accepted-passes : firstRefusal (registerTests b) ≡ Passes
+  unfolding accepted
+  accepted-passes = passes-is (firstRefusal (registerTests b)) e
+
+  pub accepted-headed : Headed b
+  accepted-headed = passed-headed b accepted-passes
+
+  pub accepted-entry : {n i : ℕ} → Field 2 b 8 n → i < n → HasEntry b i
+  accepted-entry f l = record { head = accepted-headed; below = omega (arith, f .is) }
+
+  pub accepted-counts : 10 ≤ length b
+  accepted-counts = omega (arith, accepted-headed .whole)
+
+  accepted-placed : (i : ℕ) → i < sourceCount b → Placed b i
+  unfolding wrongSource
+  accepted-placed i l = placed b i (or-false (misplaced b i) (unsound (sourceAt b i)) (right-register b accepted-passes .each i l) .0)
+
+pub accepted-by : {ok : Bool} (b : List ℕ) → ok ≡ accepted b → ok ≡ true → accepted b ≡ true
+accepted-by b e f = sym e ∙ f
+
+-- the entries before i have another number
+pub record Finding (b : List ℕ) (number n i : ℕ) : Type 0 where
+  pub head : Headed b
+  pub all : n ≡ sourceCount b
+  pub scanning : Scanning (hasNumber b number) n i
+
+pub find-none : {b : List ℕ} {number n : ℕ} → Headed b → Field 2 b 8 n → Finding b number n 0
+find-none h f = record { head = h; all = f .is; scanning = scan-none }
+
+module _ {b : List ℕ} {number n i : ℕ} (f : Finding b number n i) where
+  has : {x : ℕ} {hit : Bool} → Field 4 (sourceEntry b i) 0 x → eqb x number ≡ hit → hasNumber b number i ≡ hit
+  unfolding hasNumber
+  has g e = rw (g .is) at e
+
+  pub find-entry : i < n → HasEntry b i
+  find-entry h = record { head = f .head; below = omega (arith, f .all) }
+
+  pub find-hit : {x : ℕ} → i < n → Field 4 (sourceEntry b i) 0 x → eqb x number ≡ true → i ≡ indexOf b number
+  unfolding indexOf
+  find-hit h g e = rw (← f .all) (scan-found (f .scanning) h (has g e))
+
+  pub find-more : {x : ℕ} → i < n → Field 4 (sourceEntry b i) 0 x → eqb x number ≡ false → Finding b number n (i + 1)
+  find-more h g e = record { head = f .head; all = f .all; scanning = scan-more (f .scanning) h (has g e) }
+
+  pub find-all : n ≤ i → i ≡ indexOf b number
+  unfolding indexOf
+  find-all h = rw (← f .all) (scan-all (f .scanning) h)
+
+pub ruleset finding = (needs, find-none, find-entry, find-hit, find-more, find-all)
+
+abbrev nothing : Part
+nothing = record { offset = 0; length = 0 }
+
+-- what is sought in a register that is accepted, and in one that is not
+module _ {b : List ℕ} {number n i : ℕ} (e : accepted b ≡ true) (f : Field 2 b 8 n) (g : i ≡ indexOf b number) where
+  pub sought-held : {p : Part} → i < n → p ≡ nameAt b i → Seeks b number (record { accepted = true; held = true; name = p })
+  unfolding holds found
+  sought-held h q =
+      let l : ltb (indexOf b number) (sourceCount b) ≡ true = rw (← g, ← f .is) (lt-ltb i n h) in
+      record { taken = sym e; holding = rw (e, l); place = rw (e, l) (rw g at q) }
+
+  pub sought-absent : n ≤ i → Seeks b number (record { accepted = true; held = false; name = nothing })
+  unfolding holds found
+  sought-absent h =
+      let l : ltb (indexOf b number) (sourceCount b) ≡ false = rw (← g, ← f .is) (le-ltb i n h) in
+      record { taken = sym e; holding = rw (e, l); place = rw (e, l) }
+
+pub sought-refused : {number : ℕ} {ok : Bool} (b : List ℕ) → ok ≡ accepted b → ok ≡ false → Seeks b number (record { accepted = false; held = false; name = nothing })
+unfolding found
+sought-refused b e f = let r : accepted b ≡ false = sym e ∙ f in record { taken = sym r; holding = rw r; place = rw r }
+
+pub name-there : {start size : ℕ} (b : List ℕ) (i : ℕ) → start ≡ namePlace b i → Field 2 (sourceEntry b i) 10 size
+    → _≡_ {A = Part} (record { offset = start; length = size }) (nameAt b i)
+unfolding nameAt
+name-there b i p f = rw (p, f .is)
+
+pub ruleset seeking =
+    (needs, accepted-is, accepted-by, accepted-headed, accepted-counts, accepted-entry, sought-held, sought-absent, sought-refused, name-there)
+
+-- a name found stands within the register
+found-within : (b : List ℕ) (number : ℕ) → found b number .offset + found b number .length ≤ length b
+unfolding found holds nameAt
+found-within b number = by (accepted b && holds b number) refl
+  where
+    by : (t : Bool) → accepted b && holds b number ≡ t
+        → cond t (nameAt b (indexOf b number)) nothing .offset + cond t (nameAt b (indexOf b number)) nothing .length ≤ length b
+    by true e =
+        let both = and-true (accepted b) (holds b number) e in
+        let l = ltb-true (indexOf b number) (sourceCount b) (both .1) in
+        omega (arith, accepted-placed b (both .0) (indexOf b number) l .names, accepted-headed b (both .0) .whole)
+    by false e = omega arith
+
+pub within : {p : Part} (b : List ℕ) (number : ℕ) → p ≡ found b number → p .offset + p .length ≤ length b
+within b number e = rw e (found-within b number)
+
+-- and one found in either register within that one
+module _ (plant contractor : List ℕ) (number : ℕ) where
+  abbrev chosen : Bool → Bool → Found
+  chosen here there = cond here (inRegister 1 (found plant number)) (cond there (inRegister 2 (found contractor number)) (record { which = 1; offset = 0; length = 0 }))
+
+  abbrev here : Bool
+  here = accepted plant && accepted contractor && holds plant number && not (holds contractor number)
+
+  abbrev there : Bool
+  there = accepted plant && accepted contractor && not (holds plant number) && holds contractor number
+
+  abbrev Inside : Found → Type 0
+  Inside f = (eqb (f .which) 1 ≡ true → f .offset + f .length ≤ length plant) × (eqb (f .which) 1 ≡ false → f .offset + f .length ≤ length contractor)
+
+  inside : Inside (foundOfTwo plant contractor number)
+  unfolding foundOfTwo
+  inside = by here there
+    where
+      by : (here there : Bool) → Inside (chosen here there)
+      by true there = (λ _. found-within plant number, λ e. absurd (clash refl e))
+      by false true = (λ e. absurd (clash e refl), λ _. found-within contractor number)
+      by false false = (λ _. omega arith, λ _. omega arith)
+
+  module _ {f : Found} (e : f ≡ foundOfTwo plant contractor number) where
+    pub within-plant : eqb (f .which) 1 ≡ true → f .offset + f .length ≤ length plant
+    within-plant t = rw e (inside .0 (rw e at t))
+
+    pub within-contractor : eqb (f .which) 1 ≡ false → f .offset + f .length ≤ length contractor
+    within-contractor t = rw e (inside .1 (rw e at t))
+
+-- two registers looked through: which of them alone holds the number
+module _ {plant contractor : List ℕ} {number : ℕ} {s t : Sought} (p : Seeks plant number s) (q : Seeks contractor number t) where
+  abbrev both : Bool
+  both = s .accepted && t .accepted
+
+  alone : both && s .held && not (t .held) ≡ here plant contractor number
+  alone = rw (p .taken, q .taken, p .holding, q .holding) (by (accepted plant) (accepted contractor) (holds plant number) (holds contractor number))
+    where
+      by : (a b c d : Bool) → a && b && (a && c) && not (b && d) ≡ a && b && c && not d
+      by true true c d = refl
+      by true false c d = refl
+      by false b c d = refl
+
+  other : both && not (s .held) && t .held ≡ there plant contractor number
+  other = rw (p .taken, q .taken, p .holding, q .holding) (by (accepted plant) (accepted contractor) (holds plant number) (holds contractor number))
+    where
+      by : (a b c d : Bool) → a && b && not (a && c) && (b && d) ≡ a && b && not c && d
+      by true true c d = refl
+      by true false c d = refl
+      by false b c d = refl
+
+  pub found-here : {r : Found} → both && s .held && not (t .held) ≡ true → r ≡ inRegister 1 (s .name) → r ≡ foundOfTwo plant contractor number
+  unfolding foundOfTwo
+  found-here f e = e ∙ rw (p .place, sym alone ∙ f)
+
+  pub found-there : {r : Found} → both && s .held && not (t .held) ≡ false → both && not (s .held) && t .held ≡ true → r ≡ inRegister 2 (t .name)
+      → r ≡ foundOfTwo plant contractor number
+  unfolding foundOfTwo
+  found-there f g e = e ∙ rw (q .place, sym alone ∙ f, sym other ∙ g)
+
+  pub found-nowhere : {r : Found} → both && s .held && not (t .held) ≡ false → both && not (s .held) && t .held ≡ false → r ≡ inRegister 1 nothing
+      → r ≡ foundOfTwo plant contractor number
+  unfolding foundOfTwo
+  found-nowhere f g e = e ∙ rw (sym alone ∙ f, sym other ∙ g)
+
+pub ruleset choosing = (needs, found-here, found-there, found-nowhere)

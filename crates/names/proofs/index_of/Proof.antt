@@ -1,0 +1,25 @@
+use Prim.Native.Nat.{_-_}
+use Rattle.names.proofs.Names.{Finding, finding}
+use Rattle.names.proofs.index_of.Statement.{statement}
+use Rattle.names.proofs.index_of.Tie as tie
+
+abbrev Inv-loop : tie.InvT-loop
+Inv-loop register number n i₀ i = Finding register number n i
+
+abbrev μ-loop : tie.MeasureT-loop
+μ-loop register number n i₀ i = n - i
+
+pub index-of-spec : {M : Type 1} → statement M
+index-of-spec =
+    tie.close
+    (tie.spec
+    Inv-loop
+    μ-loop
+    (λ c κs. search finding)
+    (λ c. search finding)
+    (λ c κs. search finding)
+    (λ c. search finding)
+    (λ c. search finding)
+    (λ c. search finding)
+    (λ c. search finding)
+    (λ c. search finding))
