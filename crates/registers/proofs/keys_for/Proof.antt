@@ -1,4 +1,4 @@
-use borrow.Author.Needs.{needs}
+use native.Mathlib.Omega.{arith}
 use Rattle.registers.proofs.Tested.{testing}
 use Rattle.registers.proofs.keys_for.Statement.{statement}
 use Rattle.registers.proofs.keys_for.Tie as tie
@@ -8,6 +8,6 @@ keys-for-spec =
     tie.close
     (tie.spec
     (λ c. search testing)
-    (search needs)
+    (omega arith)
     (λ c. search testing)
     (λ c. search testing))

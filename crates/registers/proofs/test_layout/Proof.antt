@@ -1,4 +1,4 @@
-use borrow.Author.Needs.{needs}
+use native.Mathlib.Omega.{arith}
 use Rattle.registers.proofs.LaidOut.{layout}
 use Rattle.registers.proofs.test_layout.Statement.{statement}
 use Rattle.registers.proofs.test_layout.Tie as tie
@@ -8,9 +8,9 @@ test-layout-spec =
     tie.close
     (tie.spec
     (λ c. search layout)
-    (search needs)
-    (search needs)
-    (search needs)
+    (omega arith)
+    (omega arith)
+    (omega arith)
     (λ c. search layout)
     (λ c κs. search layout)
     (λ c. search layout))

@@ -1,4 +1,4 @@
-use borrow.Author.Needs.{needs}
+use native.Mathlib.Omega.{arith}
 use Rattle.registers.proofs.Tested.{testing}
 use Rattle.registers.proofs.test_register.Statement.{statement}
 use Rattle.registers.proofs.test_register.Tie as tie
@@ -7,11 +7,11 @@ pub test-register-spec : {M : Type 1} → statement M
 test-register-spec =
     tie.close
     (tie.spec
-    (search needs)
-    (search needs)
-    (search needs)
+    (omega arith)
+    (omega arith)
+    (omega arith)
     (λ c. search testing)
     (λ c κs. search testing)
-    (search needs)
-    (search needs)
+    (omega arith)
+    (omega arith)
     (λ c. search testing))

@@ -1,4 +1,4 @@
-use borrow.Author.Needs.{needs}
+use native.Mathlib.Omega.{arith}
 use Rattle.registers.proofs.header.Laws.{hearing}
 use Rattle.registers.proofs.header.test_counts.Statement.{statement}
 use Rattle.registers.proofs.header.test_counts.Tie as tie
@@ -7,11 +7,11 @@ pub test-counts-spec : {M : Type 1} → statement M
 test-counts-spec =
     tie.close
     (tie.spec
-    (search needs)
-    (search needs)
-    (search needs)
-    (search needs)
-    (search needs)
-    (search needs)
-    (search needs)
+    (omega arith)
+    (omega arith)
+    (omega arith)
+    (omega arith)
+    (omega arith)
+    (omega arith)
+    (omega arith)
     (λ c. search hearing))

@@ -1,4 +1,4 @@
-use borrow.Author.Needs.{needs}
+use native.Mathlib.Omega.{arith}
 use Rattle.registers.proofs.header.Laws.{hearing}
 use Rattle.registers.proofs.header.test_header.Statement.{statement}
 use Rattle.registers.proofs.header.test_header.Tie as tie
@@ -7,12 +7,12 @@ pub test-header-spec : {M : Type 1} → statement M
 test-header-spec =
     tie.close
     (tie.spec
-    (search needs)
-    (search needs)
-    (search needs)
-    (search needs)
-    (search needs)
-    (search needs)
-    (search needs)
-    (search needs)
+    (omega arith)
+    (omega arith)
+    (omega arith)
+    (omega arith)
+    (omega arith)
+    (omega arith)
+    (omega arith)
+    (omega arith)
     (λ c. search hearing))

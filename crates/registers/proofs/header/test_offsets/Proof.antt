@@ -1,4 +1,4 @@
-use borrow.Author.Needs.{needs}
+use native.Mathlib.Omega.{arith}
 use Rattle.registers.proofs.header.Laws.{hearing}
 use Rattle.registers.proofs.header.test_offsets.Statement.{statement}
 use Rattle.registers.proofs.header.test_offsets.Tie as tie
@@ -7,14 +7,14 @@ pub test-offsets-spec : {M : Type 1} → statement M
 test-offsets-spec =
     tie.close
     (tie.spec
-    (search needs)
-    (search needs)
-    (search needs)
-    (search needs)
-    (search needs)
-    (search needs)
-    (search needs)
-    (search needs)
-    (search needs)
-    (search needs)
+    (omega arith)
+    (omega arith)
+    (omega arith)
+    (omega arith)
+    (omega arith)
+    (omega arith)
+    (omega arith)
+    (omega arith)
+    (omega arith)
+    (omega arith)
     (λ c. search hearing))

@@ -1,4 +1,4 @@
-use borrow.Author.Needs.{needs}
+use native.Mathlib.Omega.{arith}
 use Rattle.registers.proofs.sources.Entries.{entries}
 use Rattle.registers.proofs.sources.has_bad_name.Statement.{statement}
 use Rattle.registers.proofs.sources.has_bad_name.Tie as tie
@@ -7,8 +7,8 @@ pub has-bad-name-spec : {M : Type 1} → statement M
 has-bad-name-spec =
     tie.close
     (tie.spec
-    (search needs)
-    (search needs)
-    (search needs)
-    (search needs)
+    (omega arith)
+    (omega arith)
+    (omega arith)
+    (omega arith)
     (λ c. search entries))

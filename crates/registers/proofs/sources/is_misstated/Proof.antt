@@ -1,4 +1,4 @@
-use borrow.Author.Needs.{needs}
+use native.Mathlib.Omega.{arith}
 use Rattle.registers.proofs.sources.Entries.{entries}
 use Rattle.registers.proofs.sources.is_misstated.Statement.{statement}
 use Rattle.registers.proofs.sources.is_misstated.Tie as tie
@@ -7,10 +7,10 @@ pub is-misstated-spec : {M : Type 1} → statement M
 is-misstated-spec =
     tie.close
     (tie.spec
-    (search needs)
-    (search needs)
-    (search needs)
-    (search needs)
-    (search needs)
-    (search needs)
+    (omega arith)
+    (omega arith)
+    (omega arith)
+    (omega arith)
+    (omega arith)
+    (omega arith)
     (λ c. search entries))

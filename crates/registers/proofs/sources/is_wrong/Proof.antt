@@ -1,3 +1,4 @@
+use native.Mathlib.Omega.{arith}
 use borrow.Author.Needs.{needs}
 use Rattle.registers.proofs.sources.Entries.{entries, wrong-unnamed}
 use Rattle.registers.proofs.sources.is_wrong.Statement.{statement}
@@ -7,7 +8,7 @@ pub is-wrong-spec : {M : Type 1} → statement M
 is-wrong-spec =
     tie.close
     (tie.spec
-    (search needs)
+    (omega arith)
     (λ c. search entries)
     (λ c κs. search entries)
     (λ c. search entries)

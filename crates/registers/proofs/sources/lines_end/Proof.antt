@@ -1,4 +1,4 @@
-use borrow.Author.Needs.{needs}
+use native.Mathlib.Omega.{arith}
 use Rattle.registers.proofs.sources.Entries.{entries}
 use Rattle.registers.proofs.sources.lines_end.Statement.{statement}
 use Rattle.registers.proofs.sources.lines_end.Tie as tie
@@ -7,7 +7,7 @@ pub lines-end-spec : {M : Type 1} → statement M
 lines-end-spec =
     tie.close
     (tie.spec
-    (search needs)
-    (search needs)
-    (search needs)
+    (omega arith)
+    (omega arith)
+    (omega arith)
     (λ c. search entries))

@@ -1,3 +1,4 @@
+use native.Mathlib.Omega.{arith}
 use native.Mathlib.Nat.{add-sub-cancel-left}
 use borrow.Author.Needs.{needs}
 use Rattle.registers.proofs.sources.part.Statement.{statement}
@@ -7,8 +8,8 @@ pub part-spec : {M : Type 1} → statement M
 part-spec =
     tie.close
     (tie.spec
-    (search needs)
-    (search needs)
-    (search needs)
-    (search needs)
+    (omega arith)
+    (omega arith)
+    (omega arith)
+    (omega arith)
     (λ c. record { holds = rw add-sub-cancel-left; stands = search needs }))

@@ -1,4 +1,4 @@
-use borrow.Author.Needs.{needs}
+use native.Mathlib.Omega.{arith}
 use Rattle.registers.proofs.sources.Entries.{entries}
 use Rattle.registers.proofs.sources.u32_in.Statement.{statement}
 use Rattle.registers.proofs.sources.u32_in.Tie as tie
@@ -7,8 +7,8 @@ pub u32-in-spec : {M : Type 1} → statement M
 u32-in-spec =
     tie.close
     (tie.spec
-    (search needs)
-    (search needs)
-    (search needs)
-    (search needs)
+    (omega arith)
+    (omega arith)
+    (omega arith)
+    (omega arith)
     (λ c. search entries))
