@@ -62,7 +62,7 @@ fn make_call(call: u64, first: &[u8], second: &[u8], number: u32, buffer: &mut [
     match call {
         1 => answered(calculating::calculate(first, buffer)),
         2 => answered(combining::combine(first, second, buffer)),
-        3 => answered(combining::remove(first, number, buffer)),
+        3 => answered(removing::remove(first, number, buffer)),
         4 => answered(reports::check(first)),
         5 => texted(texts::text(first, buffer)),
         6 => named(names::name_place(first, number)),

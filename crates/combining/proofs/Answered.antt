@@ -1,8 +1,8 @@
--- The two calls: what each test answers, and what is answered and left where a test refuses, where there is no room, and where the call accepts. Assumes nothing.
+-- Combination: what each test answers, and what is answered and left where a test refuses, where there is no room, and where the call accepts. Assumes nothing.
 use mathlib.Core.Bool.{Bool, true, false, not}
 use mathlib.Core.List.{List, map}
 use mathlib.Core.Path.{_≡_, refl, sym, ap, _∙_}
-use Prim.Native.Nat.{ℕ, _+_, _-_, _≤_, _<_}
+use Prim.Native.Nat.{ℕ, _+_, _≤_, _<_}
 use borrow.Author.Needs.{needs}
 use borrow.Author.Tests.{eq-eqb, ne-eqb, lt-ltb, le-ltb, ltb-false, not-false}
 use lib.Dec.{ltb}
@@ -14,16 +14,15 @@ use Rattle.basis.specs.Bytes.{Written}
 use Rattle.basis.specs.First.{first}
 use Rattle.basis.proofs.Answers.{passed-then, refused-then, each-passes, passed-append, passed-if}
 use Rattle.meaning.specs.Register.{mostSources}
-use Rattle.meaning.specs.Report.{reportLength, reportBytes, reportYear, entryCount, entriesOf, wellFormed}
-use Rattle.meaning.specs.Calls.{formTest, sharedAt, sharedTest, combinationTests, bothEntries, combinedReport, combined, removalTests, removedReport, removed}
+use Rattle.meaning.specs.Report.{reportLength, reportYear, entryCount, entriesOf, wellFormed}
+use Rattle.meaning.specs.Calls.{formTest, sharedAt, sharedTest, combinationTests, bothEntries, combinedReport, combined}
 use Rattle.meaning.proofs.Calls.{refused-gives, short-gives, made-gives}
 use Rattle.reports.specs.Stated.{Readable}
 use Rattle.reports.proofs.Judged.{readable}
-use Rattle.combining.specs.Entries.{formTests, entryTests, sharedNumber, Combinable, numberedAt, otherEntries}
+use Rattle.combining.specs.Entries.{formTests, entryTests, sharedNumber, Combinable}
 use Rattle.combining.proofs.Apart.{read-within, read-past}
 use Rattle.combining.proofs.Merged.{massed-both, length-both}
 use Rattle.combining.proofs.Shared.{positive-numbers}
-use Rattle.combining.proofs.Removed.{absent, present, without-is, length-others, others-massed}
 use Rattle.meaning.proofs.Lengths.{length-report}
 
 -- 9, of the one and of the other
@@ -138,39 +137,3 @@ combinable one other e f =
     let r = both-readable one other (sym (passed-append (formTests one other) (entryTests one other) (sym e ∙ f) .0)) refl in
     let n = entryCount one + entryCount other in
     (record { first = r .0; second = r .1; apart = shared-zero one other (p .1 .1 .1 .0); few = ltb-false mostSources n (passed-if (ltb mostSources n) 12 n (p .1 .1 .1 .1 .0)) }, sym e ∙ f)
-
--- removal
-module _ (b : List ℕ) (x : ℕ) (buffer : List ℕ) where
-  pub removal-malformed : {f : Bool} → f ≡ wellFormed b → f ≡ false → Gives (removed b x buffer) (record { number = 9; place = 1; length = 0 }) buffer
-  unfolding removed firstRefusal
-  removal-malformed e t = refused-gives (removalTests b x) (removedReport b x) buffer (rw (← e, t))
-
-  module _ (r : Readable b) {n i : ℕ} (e : n ≡ entryCount b) (f : i ≡ first (numberedAt b x) (entryCount b)) where
-    pub removal-absent : n ≤ i → Gives (removed b x buffer) (record { number = 13; place = x; length = 0 }) buffer
-    unfolding removed firstRefusal
-    removal-absent l = refused-gives (removalTests b x) (removedReport b x) buffer (rw (r .right, absent b r x i f (rw e at l)))
-
-    module _ (l : i < n) where
-      stands-there : i < entryCount b
-      stands-there = rw e at l
-
-      tests-pass : firstRefusal (removalTests b x) ≡ Passes
-      unfolding firstRefusal
-      tests-pass = rw (r .right, present b r x i f stands-there)
-
-      report-is : removedReport b x ≡ reportBytes (reportYear b) (otherEntries b i)
-      report-is = ap (reportBytes (reportYear b)) (without-is b r x i f stands-there)
-
-      length-removed : length (removedReport b x) ≡ reportLength (n - 1)
-      length-removed = rw report-is (length-report (reportYear b) (otherEntries b i) (others-massed b i) ∙ rw e (ap reportLength (length-others b i stands-there)))
-
-      pub removal-short : length buffer < reportLength (n - 1) → Gives (removed b x buffer) (record { number = 8; place = reportLength (n - 1); length = 0 }) buffer
-      unfolding removed
-      removal-short o = rw (← length-removed) (short-gives (removalTests b x) (removedReport b x) buffer tests-pass (rw length-removed o))
-
-      pub removal-made : {left : List ℕ} → Written buffer 0 (reportBytes (reportYear b) (otherEntries b i)) left
-          → Gives (removed b x buffer) (record { number = 0; place = 0; length = reportLength (n - 1) }) left
-      unfolding removed
-      removal-made w = rw (← length-removed) (made-gives (removalTests b x) (removedReport b x) buffer tests-pass (rw report-is w))
-
-pub ruleset removing = (needs, removal-malformed, removal-absent, removal-short, removal-made)

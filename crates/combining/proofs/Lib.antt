@@ -3,5 +3,4 @@ pub mod Apart
 pub mod Rows
 pub mod Shared
 pub mod Merged
-pub mod Removed
 pub mod Answered

@@ -1,8 +1,8 @@
 -- The entries of a well-formed report from an index on: how they ascend, how long their bytes are, and their totals. Assumes nothing.
-use mathlib.Core.List.{List, [], _∷_, _++_, map, append-assoc}
-use mathlib.Core.Path.{_≡_, refl, sym, ap, _∙_}
-use Prim.Native.Nat.{ℕ, zero, suc, _+_, _*_, _-_, _≤_, _<_}
-use native.Mathlib.Nat.{add-zero, zero-add}
+use mathlib.Core.List.{List, [], _∷_, _++_, map}
+use mathlib.Core.Path.{_≡_, refl, sym, _∙_}
+use Prim.Native.Nat.{ℕ, zero, suc, _+_, _*_, _≤_, _<_}
+use native.Mathlib.Nat.{add-zero}
 use native.Mathlib.Numerals.{add-one}
 use native.Mathlib.Omega.{arith}
 use lib.ListN.{length, getD, length-map}
@@ -20,9 +20,9 @@ use Rattle.meaning.proofs.Reports.{Formed, formed, length-masses, length-totals
 use Rattle.fields.specs.Fields.{Field}
 use Rattle.reports.specs.Figures.{figureAt, figuresAt, addedAt, Addable}
 use Rattle.reports.specs.Stated.{Readable, statedHeader}
-use Rattle.reports.proofs.Entries.{figure-stands, figure-small}
+use Rattle.reports.proofs.Entries.{figure-small}
 use Rattle.reports.proofs.Writing.{header-stated}
-use Rattle.combining.specs.Entries.{entriesFrom, rows, entryNumber, otherEntries, takenAt, Takeable}
+use Rattle.combining.specs.Entries.{entriesFrom, rows, entryNumber}
 use Rattle.combining.proofs.Order.{sum-sorted}
 
 -- an entry, and its number as it is read
@@ -45,14 +45,6 @@ module _ (b : List ℕ) where
   pub from-all : entriesFrom b 0 (entryCount b) ≡ entriesOf b
   unfolding entriesFrom entriesOf
   from-all = refl
-
-  from-split : (i j k : ℕ) → entriesFrom b i (j + k) ≡ entriesFrom b i j ++ entriesFrom b (i + j) k
-  unfolding entriesFrom countUp
-  from-split i zero k = rw (zero-add k, add-zero i)
-  from-split i (suc j) k =
-      let q : suc j + k ≡ suc (j + k) = omega arith in
-      let r : i + 1 + j ≡ i + suc j = omega arith in
-      rw (q, from-split (i + 1) j k, r)
 
   pub length-from : (i k : ℕ) → length (entriesFrom b i k) ≡ k
   unfolding entriesFrom
@@ -77,11 +69,6 @@ pub length-all : (es : List Entry) → Each Massed es → length (rows es) ≡ e
 unfolding rows
 length-all es p = length-rows entryBytes entryIn entryLength Massed length-entry es p
 
-pub rows-both : (es fs : List Entry) → rows (es ++ fs) ≡ rows es ++ rows fs
-unfolding rows joined
-rows-both [] fs = refl
-rows-both (e ∷ es) fs = rw (rows-both es fs) (sym (append-assoc (entryBytes e) (rows es) (rows fs)))
-
 -- a header of a year, a count and totals that are those of entries
 pub header-made : (year : ℕ) (es : List Entry) {y n : ℕ} {ts xs ys : List ℕ} → y ≡ year → n ≡ length es → ts ≡ totals es → Written xs 0 (statedHeader y n ts) ys
     → Written xs 0 (reportHeader year es) ys
@@ -105,14 +92,6 @@ module _ (b : List ℕ) (r : Readable b) where
       let a = whole .entry i (omega arith) .above in
       (omega (arith, a), all-above n k (i + 1) (omega arith) (rw (add-one i) (omega (arith, a))))
 
-  -- an entry stands between those before it and those behind it
-  pub around : (i : ℕ) → i < entryCount b → entriesOf b ≡ entriesFrom b 0 i ++ entry b i ∷ entriesFrom b (i + 1) (entryCount b - (i + 1))
-  around i l =
-      by (entryCount b - (i + 1)) (omega arith)
-    where
-      by : (k : ℕ) → entryCount b ≡ i + suc k → entriesOf b ≡ entriesFrom b 0 i ++ entry b i ∷ entriesFrom b (i + 1) k
-      by k q = sym (from-all b) ∙ ap (entriesFrom b 0) q ∙ from-split b 0 i (suc k) ∙ rw (zero-add i, from-more b i k)
-
   -- totals, as a header states them
   totals-stand : {ts : List ℕ} → ts ≡ figuresAt figureCount b 24 → ts ≡ totals (entriesOf b)
   unfolding figuresAt
@@ -125,10 +104,10 @@ module _ (b : List ℕ) (r : Readable b) where
 
 -- the totals that were read of a report
 module _ {b ts : List ℕ} (r : Readable b) (e : ts ≡ figuresAt figureCount b 24) where
-  length-stated : length ts ≡ figureCount
+  pub length-stated : length ts ≡ figureCount
   length-stated = rw (totals-stand b r e) (length-totals (entriesOf b))
 
-  stated-is : (k : ℕ) → k < figureCount → getD ts k 0 ≡ sum (map (figure k) (entriesOf b))
+  pub stated-is : (k : ℕ) → k < figureCount → getD ts k 0 ≡ sum (map (figure k) (entriesOf b))
   stated-is k l = rw (totals-stand b r e) (total-is (entriesOf b) k l)
 
 -- the totals of two reports together; no sum leaves 64 bits
@@ -149,29 +128,3 @@ module _ (one other : List ℕ) (r : Readable one) (s : Readable other) {ts : Li
       (totals-by (λ k. getD ts k 0 + figureAt other 24 k) (bothEntries one other)
       (λ k l. rw (stated-is r e k l, total-read other (whole other s) k l)
       (sym (sum-sorted (λ e. e .number) (figure k) (entriesOf one ++ entriesOf other) ∙ sum-both (figure k) (entriesOf one) (entriesOf other)))))
-
--- and those of a report less the figures of an entry
-module _ (b : List ℕ) (i : ℕ) (r : Readable b × (i < entryCount b)) {ts : List ℕ} (e : ts ≡ figuresAt figureCount b 24) where
-  stated : (k : ℕ) → k < figureCount → figureAt b (entriesAt + entryLength * i + 8) k ≡ figure k (entry b i)
-  stated k l = figure-stands (whole b (r .0) .entry i (r .1)) k l
-
-  parts : (k : ℕ) → k < figureCount → getD ts k 0 ≡ sum (map (figure k) (otherEntries b i)) + figure k (entry b i)
-  unfolding otherEntries sum
-  parts k l =
-      let front = entriesFrom b 0 i in
-      let back = entriesFrom b (i + 1) (entryCount b - (i + 1)) in
-      stated-is (r .0) e k l
-      ∙ rw (around b (r .0) i (r .1), sum-both (figure k) front (entry b i ∷ back), sum-both (figure k) front back) (omega arith)
-
-  pub others-held : Takeable b (entriesAt + entryLength * i + 8) ts
-  others-held =
-      record {
-        stand = omega (arith, length-stated (r .0) e, r .0 .filled, r .1);
-        held = λ k l. let m : k < figureCount = rw (length-stated (r .0) e) at l in omega (arith, parts k m, stated k m);
-      }
-
-  pub others-taken : {us : List ℕ} → us ≡ takenAt b (entriesAt + entryLength * i + 8) ts → us ≡ totals (otherEntries b i)
-  unfolding takenAt
-  others-taken u =
-      u ∙ rw (length-stated (r .0) e)
-      (totals-by (λ k. getD ts k 0 - figureAt b (entriesAt + entryLength * i + 8) k) (otherEntries b i) (λ k l. rw (parts k l, stated k l) (omega arith)))

@@ -1,4 +1,4 @@
-// What both calls read of a well-formed report: its year, its count, and the number of an entry.
+// What combination and removal read of a well-formed report: its year, its count, and the number of an entry.
 ghost use mathlib.Core.Path.{_≡_};
 ghost use Prim.Native.Nat.{_<_};
 ghost use Rattle.meaning.specs.Report.{reportYear, entryCount};

@@ -27,7 +27,7 @@ pub extern "C" fn kopristen_combine(first: &[u8], second: &[u8], report: &mut [u
 pub extern "C" fn kopristen_remove(report: &[u8], number: u32, result: &mut [u8]) -> Answer
     ensures { λ r. ⌜ Gives (removed (now (report .entry)) number (now (result .entry))) r (now (result .exit)) ⌝ }
 {
-    combining::remove(report, number, result)
+    removing::remove(report, number, result)
 }
 
 // "The report check has only 9, place 1"

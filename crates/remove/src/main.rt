@@ -5,7 +5,7 @@ use files::REPORT_ROOM;
 
 fn remove(report: &[u8], number: u32) {
     let mut result = [0u8; REPORT_ROOM];
-    let answer = combining::remove(report, number, &mut result);
+    let answer = removing::remove(report, number, &mut result);
     files::settle(answer, &result, 3);
 }
 

@@ -25,10 +25,12 @@ use Rattle.reports.specs.Figures.{figureAt}
 use Rattle.reports.specs.Stated.{Readable, statedHeader}
 use Rattle.basis.proofs.Filling.{Filled, filled-none, filled-now, filled-more, filled-all}
 use Rattle.reports.proofs.Writing.{entry-stands}
-use Rattle.combining.specs.Entries.{entriesFrom, rows, entryNumber, numberedAt, otherEntries, takenAt, Takeable}
+use Rattle.combining.specs.Entries.{entriesFrom, rows, entryNumber}
+use Rattle.removing.specs.Others.{numberedAt, otherEntries, takenAt, Takeable}
 use Rattle.meaning.proofs.Lengths.{Massed}
-use Rattle.combining.proofs.Order.{any-none, any-between, without-between}
-use Rattle.combining.proofs.Rows.{entry, from-all, from-each, from-massed, length-from, length-all, rows-both, header-made, all-above, around}
+use Rattle.removing.proofs.Between.{any-none, any-between, without-between}
+use Rattle.combining.proofs.Rows.{entry, from-all, from-each, from-massed, length-from, length-all, header-made, all-above}
+use Rattle.removing.proofs.Parted.{rows-both, around}
 
 -- no entry before i has the number
 pub record Finding (b : List ℕ) (x n i : ℕ) : Type 0 where
@@ -132,10 +134,10 @@ module _ (b : List ℕ) (r : Readable b) (x i : ℕ) (e : i ≡ first (numberedA
         (all-above b r x (entryCount b - (i + 1)) (i + 1) (omega arith) (rw (add-one i) (omega arith)))
 
     pub present : any (numbered x) (entriesOf b) ≡ true
-    present = rw (around b r i l) (any-between (numbered x) (entriesFrom b 0 i) (entry b i) (entriesFrom b (i + 1) (entryCount b - (i + 1))) hit)
+    present = rw (around b i l) (any-between (numbered x) (entriesFrom b 0 i) (entry b i) (entriesFrom b (i + 1) (entryCount b - (i + 1))) hit)
 
     pub without-is : without (numbered x) (entriesOf b) ≡ otherEntries b i
     unfolding otherEntries
     without-is =
-        rw (around b r i l)
+        rw (around b i l)
         (without-between (numbered x) (entriesFrom b 0 i) (entry b i) (entriesFrom b (i + 1) (entryCount b - (i + 1))) before-not hit behind-not)

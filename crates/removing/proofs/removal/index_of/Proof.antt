@@ -1,7 +1,7 @@
 use Prim.Native.Nat.{_-_}
-use Rattle.combining.proofs.Removed.{Finding, finding}
-use Rattle.combining.proofs.removal.index_of.Statement.{statement}
-use Rattle.combining.proofs.removal.index_of.Tie as tie
+use Rattle.removing.proofs.Removed.{Finding, finding}
+use Rattle.removing.proofs.removal.index_of.Statement.{statement}
+use Rattle.removing.proofs.removal.index_of.Tie as tie
 
 abbrev Inv-loop : tie.InvT-loop
 Inv-loop report number n i₀ i = Finding report number n i

@@ -1,8 +1,8 @@
 use Prim.Native.Nat.{_-_}
 use lib.ListN.{length}
-use Rattle.combining.proofs.Removed.{Taking, taking}
-use Rattle.combining.proofs.removal.take_figures.Statement.{statement}
-use Rattle.combining.proofs.removal.take_figures.Tie as tie
+use Rattle.removing.proofs.Removed.{Taking, taking}
+use Rattle.removing.proofs.removal.take_figures.Statement.{statement}
+use Rattle.removing.proofs.removal.take_figures.Tie as tie
 
 abbrev Inv-loop : tie.InvT-loop
 Inv-loop s at sums₀ k₀ sums k = Taking s at sums₀ sums k

@@ -1,8 +1,8 @@
 use borrow.Author.Needs.{needs}
 use Rattle.reports.proofs.Judged.{readable}
-use Rattle.combining.proofs.Answered.{removal-malformed}
-use Rattle.combining.proofs.remove.Statement.{statement}
-use Rattle.combining.proofs.remove.Tie as tie
+use Rattle.removing.proofs.Answered.{removal-malformed}
+use Rattle.removing.proofs.remove.Statement.{statement}
+use Rattle.removing.proofs.remove.Tie as tie
 
 pub remove-spec : {M : Type 1} → statement M
 remove-spec =

@@ -1,7 +1,7 @@
 use borrow.Author.Needs.{needs}
-use Rattle.combining.proofs.Removed.{other-header}
-use Rattle.combining.proofs.removal.put_other_header.Statement.{statement}
-use Rattle.combining.proofs.removal.put_other_header.Tie as tie
+use Rattle.removing.proofs.Removed.{other-header}
+use Rattle.removing.proofs.removal.put_other_header.Statement.{statement}
+use Rattle.removing.proofs.removal.put_other_header.Tie as tie
 
 pub put-other-header-spec : {M : Type 1} → statement M
 put-other-header-spec =

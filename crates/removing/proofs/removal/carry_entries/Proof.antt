@@ -2,9 +2,9 @@ use denote.Ref.{now}
 use native.Mathlib.Omega.{arith}
 use borrow.Author.Needs.{needs}
 use Rattle.basis.specs.Bytes.{Bytes}
-use Rattle.combining.proofs.Removed.{entries-carried}
-use Rattle.combining.proofs.removal.carry_entries.Statement.{statement}
-use Rattle.combining.proofs.removal.carry_entries.Tie as tie
+use Rattle.removing.proofs.Removed.{entries-carried}
+use Rattle.removing.proofs.removal.carry_entries.Statement.{statement}
+use Rattle.removing.proofs.removal.carry_entries.Tie as tie
 
 pub carry-entries-spec : {M : Type 1} → statement M
 carry-entries-spec =

@@ -1,6 +1,6 @@
-use Rattle.combining.proofs.Answered.{removing}
-use Rattle.combining.proofs.remove_entry.Statement.{statement}
-use Rattle.combining.proofs.remove_entry.Tie as tie
+use Rattle.removing.proofs.Answered.{removing}
+use Rattle.removing.proofs.remove_entry.Statement.{statement}
+use Rattle.removing.proofs.remove_entry.Tie as tie
 
 pub remove-entry-spec : {M : Type 1} → statement M
 remove-entry-spec =

@@ -1,0 +1,4 @@
+pub mod Between
+pub mod Parted
+pub mod Removed
+pub mod Answered
