@@ -16,8 +16,10 @@ use basis::Answer;
 use basis::Verdict;
 use sources::judge_sources;
 
-// So few sources do not pay for clearing the room of 512.
+// So few sources, and so many as a plant mostly has, do not pay for clearing the room of 512.
 const FEW: usize = 16;
+
+const SOME: usize = 128;
 
 // What is left of a calculation whose tests have passed: the room, and the report.
 fn issue(register: &[u8], keys: &[u64], kept: &[u64], report: &mut [u8]) -> Answer
@@ -81,6 +83,15 @@ fn calculate_few(register: &[u8], report: &mut [u8]) -> Answer
     calculate_in(register, &mut keys, &mut kept, report)
 }
 
+fn calculate_some(register: &[u8], report: &mut [u8]) -> Answer
+    requires { ⌜ keysFor (now register) ≤ 128 ⌝ }
+    ensures { λ r. ⌜ Gives (calculated (now (register .entry)) (now (report .entry))) r (now (report .exit)) ⌝ }
+{
+    let mut keys = [0u64; SOME];
+    let mut kept = [0u64; 512];
+    calculate_in(register, &mut keys, &mut kept, report)
+}
+
 fn calculate_many(register: &[u8], report: &mut [u8]) -> Answer
     requires { ⌜ keysFor (now register) ≤ mostSources ⌝ }
     ensures { λ r. ⌜ Gives (calculated (now (register .entry)) (now (report .entry))) r (now (report .exit)) ⌝ }
@@ -97,6 +108,9 @@ pub fn calculate(register: &[u8], report: &mut [u8]) -> Answer
     let count = registers::keys_for(register);
     if count <= FEW {
         return calculate_few(register, report);
+    }
+    if count <= SOME {
+        return calculate_some(register, report);
     }
     calculate_many(register, report)
 }
