@@ -51,6 +51,17 @@ numberOf-fits (b ∷ bs) h =
     let m : numberOf bs < 256 ^ length bs = numberOf-fits bs (λ i. h (suc i)) in
     rw (pow-suc 256 (length bs)) (omega arith)
 
+-- the number of bytes is that of the first j of them, and 256^j times that of those behind
+numberOf-parts : (j k : ℕ) (bs : List ℕ) → numberOf (take (j + k) bs) ≡ numberOf (take j bs) + 256 ^ j * numberOf (take k (drop j bs))
+unfolding numberOf
+numberOf-parts zero k bs = rw (zero-add k) (omega arith)
+numberOf-parts (suc j) k [] = rw (suc-add, take-nil {A = ℕ} k) (omega arith)
+numberOf-parts (suc j) k (b ∷ bs) = rw (suc-add, numberOf-parts j k bs, pow-suc 256 j) (omega arith)
+
+pub numberAt-parts : (j k : ℕ) (bs : List ℕ) (at : ℕ) → numberAt (j + k) bs at ≡ numberAt j bs at + 256 ^ j * numberAt k bs (at + j)
+unfolding numberAt
+numberAt-parts j k bs at = rw (← drop-drop j at bs) (numberOf-parts j k (drop at bs))
+
 pub splice-none : (xs : List ℕ) (at : ℕ) → splice xs at [] ≡ xs
 unfolding splice
 splice-none xs at = simp (append-nil, add-zero, take-append-drop)

@@ -1,69 +1,48 @@
--- The loops that read and write bytes: how each begins, goes on and ends. Assumes nothing.
+-- Fields read one behind another, and the loops that write and compare bytes: how each begins, goes on and ends. Assumes nothing.
 use mathlib.Core.Bool.{true, false, _&&_}
 use mathlib.Core.Path.{_≡_, refl, sym, ap, _∙_}
 use mathlib.Core.List.{List, [], _∷_, _++_, append-assoc}
 use Prim.Native.Nat.{ℕ, suc, _+_, _*_, _-_, _/_, _%_, _^_, _≤_, _<_}
-use native.Mathlib.Nat.{add-assoc, add-zero, sub-zero, sub-self, pow-suc, pow-le-pow-right}
+use native.Mathlib.Nat.{add-assoc, add-zero, sub-zero, mul-le-mul-left}
 use native.Mathlib.Numerals.{add-one}
 use native.Mathlib.Omega.{arith}
-use mir.Syntax.{w64}
-use mir.Val.{Fits}
 use borrow.Author.Needs.{needs}
 use borrow.Author.Tests.{eq-eqb, ne-eqb}
 use lib.Dec.{eqb}
-use lib.ListN.{length, take, drop, getD, set, length-append, length-set, drop-of-length-le}
+use lib.Pow.{pow-add}
+use lib.ListN.{length, drop, getD, set, length-append, length-set, drop-of-length-le}
 use lib.Seq.{set-split, drop-cons, drop-drop, getD-drop}
 use Rattle.basis.specs.Bytes.{bytesOf, numberOf, numberAt, splice, startsWith, Written}
 use Rattle.basis.proofs.Rows.{numberAt-drop}
-use Rattle.basis.proofs.Bytes.{length-bytesOf, splice-none, splice-splice, length-written}
+use Rattle.basis.proofs.Bytes.{numberAt-parts, length-bytesOf, splice-none, splice-splice, length-written}
 use Rattle.fields.specs.Fields.{Field}
 
 -- a field behind a place is one of what stands from there on
 pub field-behind : {k n : ℕ} {bs : List ℕ} (p at : ℕ) → Field k bs (p + at) n → Field k (drop p bs) at n
 field-behind {k} {bs = bs} p at f = record { is = f .is ∙ sym (numberAt-drop k bs p at); small = f .small }
 
--- n is the number of the bytes from the i-th up to the k-th at a place
-pub record Read (bs : List ℕ) (at k i n : ℕ) : Type 0 where
-  pub low : i ≤ k
-  pub is : n ≡ numberOf (take (k - i) (drop (at + i) bs))
-  pub small : n < 256 ^ (k - i)
+-- a byte is its own number
+pub field-byte : {bs : List ℕ} {at b : ℕ} → at + 1 ≤ length bs → (b ≡ getD bs at 0) × (b < 256) → Field 1 bs at b
+unfolding numberAt numberOf
+field-byte {bs} {at} l h = record { is = rw (drop-cons bs at 0 (omega arith)) (omega (arith, h .0)); small = h .1 }
 
-pub read-none : (bs : List ℕ) (at k : ℕ) → Read bs at k k 0
-unfolding numberOf
-read-none bs at k = record { low = omega arith; is = simp sub-self; small = simp sub-self (omega arith) }
+-- fields behind one another are one
+pub field-both : (j k : ℕ) {m n at : ℕ} {bs : List ℕ} → Field j bs at m → Field k bs (at + j) n → Field (j + k) bs at (m + 256 ^ j * n)
+field-both j k {m} {n} {at} {bs} f g =
+    record {
+      is = rw (f .is, g .is) (sym (numberAt-parts j k bs at));
+      small = rw (pow-add 256 j k) (omega (arith, f .small, mul-le-mul-left (256 ^ j) (g .small)));
+    }
 
-pub read-all : {bs : List ℕ} {at k i n : ℕ} → Read bs at k i n → i ≤ 0 → Field k bs at n
-unfolding numberAt
-read-all {i = i} r h =
-    let z : i ≡ 0 = omega arith in
-    record { is = simp (z, add-zero, sub-zero) at (r .is); small = simp (z, sub-zero) at (r .small) }
+pub field-two : {m n at : ℕ} {bs : List ℕ} → Field 1 bs at m → Field 1 bs (at + 1) n → Field 2 bs at (m + 256 * n)
+field-two f g = field-both 1 1 f g
 
-module _ {bs : List ℕ} {at k i n : ℕ} (r : Read bs at k i n) (h : 0 < i) (l : (at + k ≤ length bs) × (k ≤ 8)) where
-  -- with a byte more it still fits 64 bits
-  read-small : n < 2 ^ 56
-  read-small =
-      let q : 256 ^ (k - i) ≤ 256 ^ 7 = pow-le-pow-right (omega arith) {j = 7} (omega (arith, r .low)) in
-      omega (arith, r .small)
+pub field-four : {l m n at : ℕ} {bs : List ℕ} → Field 2 bs at l → Field 1 bs (at + 2) m → Field 1 bs (at + 3) n
+    → Field 4 bs at (l + 65536 * m + 16777216 * n)
+field-four f g h = field-both 3 1 (field-both 2 1 f g) h
 
-  pub read-mul : Fits w64 (n * 256)
-  read-mul = omega (arith, read-small)
-
-  pub read-add : {b : ℕ} → b < 256 → Fits w64 (n * 256 + b)
-  read-add m = omega (arith, read-small)
-
-  pub read-more : {b : ℕ} → (b ≡ getD bs (at + (i - 1)) 0) × (b < 256) → Read bs at k (i - 1) (n * 256 + b)
-  unfolding numberOf
-  read-more m =
-      let p : at + (i - 1) < length bs = omega (arith, r .low) in
-      let q : k - (i - 1) ≡ suc (k - i) = omega (arith, r .low) in
-      let t : suc (at + (i - 1)) ≡ at + i = omega arith in
-      record {
-        low = omega (arith, r .low);
-        is = rw (q, drop-cons bs (at + (i - 1)) 0, t) (omega (arith, r .is));
-        small = rw (q, pow-suc 256) (omega (arith, r .small));
-      }
-
-pub ruleset reading = (needs, read-none, read-mul, read-add, read-more, read-all)
+pub field-eight : {m n at : ℕ} {bs : List ℕ} → Field 4 bs at m → Field 4 bs (at + 4) n → Field 8 bs at (m + 4294967296 * n)
+field-eight f g = field-both 4 4 f g
 
 -- ys is being written over bs₀ at a place: bs is what stands so far, and the rest, written at p, makes the whole
 pub record Writing (bs₀ : List ℕ) (at : ℕ) (ys bs : List ℕ) (p : ℕ) (rest : List ℕ) : Type 0 where

@@ -11,46 +11,34 @@ fn wide(byte: u8) -> u64
     byte as u64
 }
 
-// The number of k bytes at a place, read from the highest down. One loop for every width: at a literal width it compiles to one load.
-fn number_at(s: &[u8], at: usize, k: usize) -> u64
-    requires { ⌜ (at + k ≤ length (now s)) × (k ≤ 8) ⌝ }
-    ensures { λ r. ⌜ Field k (now (s .entry)) at r ⌝ }
-{
-    let mut i = k;
-    let mut n: u64 = 0;
-    while 0 < i {
-        i -= 1;
-        n = n * 256 + wide(s[at + i]);
-    }
-    n
-}
-
 pub fn u8_at(s: &[u8], at: usize) -> u64
     requires { ⌜ at + 1 ≤ length (now s) ⌝ }
     ensures { λ r. ⌜ Field 1 (now (s .entry)) at r ⌝ }
 {
-    number_at(s, at, 1)
+    wide(s[at])
 }
 
+// Each wider read is a sum of narrower ones, of which the compiler makes one load before it mixes the bytes with what is computed of them.
 pub fn u16_at(s: &[u8], at: usize) -> u64
     requires { ⌜ at + 2 ≤ length (now s) ⌝ }
     ensures { λ r. ⌜ Field 2 (now (s .entry)) at r ⌝ }
 {
-    number_at(s, at, 2)
+    u8_at(s, at) + 256 * u8_at(s, at + 1)
 }
 
+// Byte by byte: of a sum of two sums of two bytes the compiler makes one load for x86-64 alone.
 pub fn u32_at(s: &[u8], at: usize) -> u64
     requires { ⌜ at + 4 ≤ length (now s) ⌝ }
     ensures { λ r. ⌜ Field 4 (now (s .entry)) at r ⌝ }
 {
-    number_at(s, at, 4)
+    u16_at(s, at) + 65536 * u8_at(s, at + 2) + 16777216 * u8_at(s, at + 3)
 }
 
 pub fn u64_at(s: &[u8], at: usize) -> u64
     requires { ⌜ at + 8 ≤ length (now s) ⌝ }
     ensures { λ r. ⌜ Field 8 (now (s .entry)) at r ⌝ }
 {
-    number_at(s, at, 8)
+    u32_at(s, at) + 4294967296 * u32_at(s, at + 4)
 }
 
 // The k lowest bytes of v, lowest first, over what stands at a place.
