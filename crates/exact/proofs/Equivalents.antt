@@ -3,8 +3,8 @@ use mathlib.Core.Bool.{Bool, true, false, cond}
 use mathlib.Core.List.{List}
 use mathlib.Core.Logic.{_↔_}
 use mathlib.Core.Path.{_≡_, refl, sym, ap, _∙_}
-use Prim.Native.Nat.{ℕ, _+_, _*_, _/_, _≤_, _<_}
-use native.Mathlib.Nat.{le-div-iff-mul-le, div-lt-iff-lt-mul, mul-comm}
+use Prim.Native.Nat.{ℕ, _+_, _*_, _≤_, _<_}
+use native.Mathlib.Nat.{le-trans, mul-le-mul-left, mul-le-mul-right}
 use native.Mathlib.Numerals.{add-one}
 use native.Mathlib.Omega.{arith}
 use borrow.Author.Needs.{needs}
@@ -14,6 +14,7 @@ use lib.ListN.{length, getD, drop}
 use lib.Seq.{drop-cons}
 use mir.Syntax.{w64}
 use mir.Val.{Fits}
+use Rattle.basis.proofs.Tables.{everywhere-at}
 use Rattle.meaning.specs.Masses.{warming, gasCount, weighed, equivalent, limit}
 use Rattle.exact.specs.declared.Weighed.the-variants.{Within, Above}
 use Rattle.exact.specs.Equivalents.{withinLimit}
@@ -47,10 +48,17 @@ above-exactly ms = (by (leb (equivalent ms) limit) refl, above-limit ms)
     by true t p = absurd (never p)
     by false t p = leb-false (equivalent ms) limit t
 
--- the gases before one are weighed, each within the limit
+-- no gas weighs more than N2O
+abbrev heaviest : ℕ
+heaviest = 298
+
+weight-fits : (gas : ℕ) → gas < gasCount → getD warming gas 0 ≤ heaviest
+weight-fits gas h = leb-true _ _ (everywhere-at (λ i w. leb w heaviest) warming 0 refl gas h)
+
+-- the gases before one are weighed, each of a mass within the limit
 pub record Weighing (ms : List ℕ) (sum gas : ℕ) : Type 0 where
   pub gas-fits : gas ≤ gasCount
-  pub sum-fits : sum ≤ limit * gas
+  pub sum-fits : sum ≤ heaviest * limit * gas
   pub rest : sum + weighed (drop gas warming) (drop gas ms) ≡ equivalent ms
 
 pub weighing-first : (ms : List ℕ) → Weighing ms 0 0
@@ -67,25 +75,27 @@ next-weighed ms gas g e =
 
 module _ {ms : List ℕ} {sum gas weight : ℕ} (l : Weighing ms sum gas) (g : gas < gasCount) (e : length ms ≡ gasCount) (is : weight ≡ getD warming gas 0) (p : 0 < weight) where
   -- a mass that the limit holds
-  weighing-holds : getD ms gas 0 ≤ limit / weight → weight * getD ms gas 0 ≤ limit
-  weighing-holds h = rw mul-comm (le-div-iff-mul-le p .0 h)
+  weighing-holds : getD ms gas 0 ≤ limit → weight * getD ms gas 0 ≤ heaviest * limit
+  weighing-holds h =
+      let w : weight ≤ heaviest = rw is (weight-fits gas g) in
+      le-trans (mul-le-mul-right (getD ms gas 0) w) (mul-le-mul-left heaviest h)
 
-  pub weighing-fits : getD ms gas 0 ≤ limit / weight → Fits w64 (weight * getD ms gas 0)
+  pub weighing-fits : getD ms gas 0 ≤ limit → Fits w64 (weight * getD ms gas 0)
   weighing-fits h = record { fits = omega (arith, weighing-holds h) }
 
-  pub weighing-sum-fits : getD ms gas 0 ≤ limit / weight → Fits w64 (sum + weight * getD ms gas 0)
+  pub weighing-sum-fits : getD ms gas 0 ≤ limit → Fits w64 (sum + weight * getD ms gas 0)
   weighing-sum-fits h = record { fits = omega (arith, weighing-holds h, l .sum-fits) }
 
-  pub weighing-next : getD ms gas 0 ≤ limit / weight → Weighing ms (sum + weight * getD ms gas 0) (gas + 1)
+  pub weighing-next : getD ms gas 0 ≤ limit → Weighing ms (sum + weight * getD ms gas 0) (gas + 1)
   weighing-next h =
       let t = weighing-holds h in
       let n = rw (← is) at (next-weighed ms gas g e) in
       record { gas-fits = omega arith; sum-fits = omega (arith, l .sum-fits); rest = omega (arith, l .rest) }
 
-  -- a mass that it does not hold passes it
-  pub weighing-none : limit / weight < getD ms gas 0 → Above ≡ withinLimit ms
+  -- a mass that it does not hold passes it, since no gas weighs less than CO2
+  pub weighing-none : limit < getD ms gas 0 → Above ≡ withinLimit ms
   weighing-none h =
-      let t : limit < weight * getD ms gas 0 = rw mul-comm (div-lt-iff-lt-mul p .0 h) in
+      let t : getD ms gas 0 ≤ weight * getD ms gas 0 = omega (arith, mul-le-mul-right (getD ms gas 0) p) in
       let n = rw (← is) at (next-weighed ms gas g e) in
       sym (above-limit ms (omega (arith, l .rest)))
 

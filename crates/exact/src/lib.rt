@@ -120,7 +120,8 @@ fn warming_of(gas: usize) -> u64
     WARMING[gas]
 }
 
-// Gas by gas: a mass is multiplied only where its product is known to be within the limit, so that three products are within 64 bits.
+// Gas by gas: a mass is multiplied only where it is itself within the limit, so that three products are within 64 bits. One limit for all gases
+// is one number in a register.
 pub fn equivalent(masses: [u64; GASES]) -> Weighed
     ensures { λ r. ⌜ r ≡ withinLimit masses ⌝ }
 {
@@ -129,7 +130,7 @@ pub fn equivalent(masses: [u64; GASES]) -> Weighed
     while gas < GASES {
         let weight = warming_of(gas);
         let mass = masses[gas];
-        if LIMIT / weight < mass {
+        if LIMIT < mass {
             return Weighed::Above;
         }
         sum += weight * mass;

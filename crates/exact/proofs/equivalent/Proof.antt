@@ -15,7 +15,7 @@ pub equivalent-spec : {M : Type 1} → statement M
 equivalent-spec =
     tie.close
     (tie.spec Inv-loop μ-loop (λ c. search weighing)
-    (search needs) (search needs) (search needs) (search needs)
+    (search needs) (search needs) (search needs)
     (λ c. search weighing) (λ c. search weighing) (λ c. search weighing)
     (search needs) (search needs)
     (λ c. search weighing) (λ c. search weighing) (λ c. search weighing))
