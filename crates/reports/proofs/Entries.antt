@@ -1,16 +1,16 @@
 -- An entry as it is read at its place, and what is wrong with it. Assumes nothing.
-use mathlib.Core.Bool.{Bool, true, not, _||_}
-use mathlib.Core.List.{List, [], _∷_, map}
-use mathlib.Core.Path.{_≡_, refl, sym, ap, _∙_}
+use mathlib.Core.Bool.{Bool, true, false, not, _||_}
+use mathlib.Core.List.{List, map}
+use mathlib.Core.Path.{_≡_, sym, ap, _∙_}
 use Prim.Native.Nat.{ℕ, zero, suc, _+_, _*_, _≤_, _<_}
 use native.Mathlib.Nat.{add-assoc, add-zero}
 use native.Mathlib.Omega.{arith}
-use borrow.Author.Tests.{lt-ltb, le-ltb, lt-leb, le-leb, ne-eqb}
+use borrow.Author.Tests.{lt-ltb, le-ltb, lt-leb, le-leb, ne-eqb, not-true, not-false}
 use lib.Dec.{eqb, ltb, leb}
-use lib.ListN.{length, take, drop}
-use lib.Seq.{drop-drop}
-use Rattle.basis.specs.Bytes.{numberOf, numberAt}
+use lib.ListN.{length, drop}
+use Rattle.basis.specs.Bytes.{numberAt}
 use Rattle.basis.specs.Lists.{countUp}
+use Rattle.basis.proofs.Bytes.{numberAt-parts}
 use Rattle.basis.proofs.Bools.{or-true, or-none, or-assoc}
 use Rattle.basis.proofs.Rows.{numberAt-drop}
 use Rattle.meaning.specs.Methods.{within}
@@ -53,17 +53,6 @@ module _ (b : List ℕ) (at : ℕ) {ms : List ℕ} {w : Weighed} (m : ms ≡ ent
       let s : stated ≡ figureIn (drop at b) gasCount = field-behind at (8 + 8 * gasCount) (rw add-assoc at f) .is in
       rw (← m, ← s, ← h .1, le-ltb limit right (omega (arith, h .0, h .1))) (sym (or-none (not (eqb stated right))))
 
--- bytes are their first one and the number of those behind it
-first-byte : (k : ℕ) (bs : List ℕ) → numberOf (take (suc k) bs) ≡ numberOf (take 1 bs) + 256 * numberOf (take k (drop 1 bs))
-unfolding numberOf
-first-byte zero [] = refl
-first-byte (suc k) [] = refl
-first-byte k (b ∷ bs) = omega arith
-
-byte-and-rest : (k : ℕ) (bs : List ℕ) (at : ℕ) → numberAt (suc k) bs at ≡ numberAt 1 bs at + 256 * numberAt k bs (at + 1)
-unfolding numberAt
-byte-and-rest k bs at = rw (← drop-drop 1 at bs) (first-byte k (drop at bs))
-
 -- a method and what stands behind it are a method only where that is zeros
 method-alone : (m z : ℕ) → not (within 1 6 (m + 256 * z)) ≡ not (within 1 6 m) || not (eqb z 0)
 method-alone m zero = rw (add-zero m) (sym (or-none (not (within 1 6 m))))
@@ -72,22 +61,32 @@ method-alone m (suc z) =
     let high : 6 < m + 256 * suc z = omega arith in
     rw (le-leb 1 (m + 256 * suc z) low, lt-leb (m + 256 * suc z) 6 high, ne-eqb (suc z) 0 (λ e. omega arith)) (sym (or-true (not (within 1 6 m))))
 
+-- an entry's number, with the one before it, or its method breaks a rule
+abbrev frontWrong : ℕ → ℕ → ℕ → Bool
+frontWrong number before method = leb number before || not (within 1 6 method)
+
 -- entry i, by the fields that were read and by its equivalent
-pub entry-judged : (b : List ℕ) (i : ℕ) {before number method : ℕ} {unequal : Bool} → before ≡ numberBefore b i
-    → Field 4 b (entriesAt + entryLength * i) number → Field 4 b (entriesAt + entryLength * i + 4) method
-    → unequal ≡ wrongEquivalent (drop (entriesAt + entryLength * i) b)
-    → leb number before || not (within 1 6 method) || unequal ≡ wrongEntry b i
-unfolding wrongEntry wrongEquivalent entryIn
-entry-judged b i {before} {number} {method} e n m u =
-    let r = entryAt b i in
-    let at = entriesAt + entryLength * i in
-    let p : numberAt 4 r 0 ≡ number = sym (field-behind at 0 (rw (add-zero at) n) .is) in
-    let q : method ≡ numberAt 1 r 4 + 256 * numberAt 3 r 5 = field-behind at 4 m .is ∙ byte-and-rest 3 r 4 in
-    let wrong = leb number before in
-    let other = not (within 1 6 (numberAt 1 r 4)) in
-    let filled = not (eqb (numberAt 3 r 5) 0) in
-    rw (u, p, q, method-alone (numberAt 1 r 4) (numberAt 3 r 5), ← e, ← or-assoc wrong other filled)
-    (sym (or-assoc (wrong || other || filled) (not (eqb (figureIn r gasCount) (equivalent (entryIn r .masses)))) (ltb limit (equivalent (entryIn r .masses)))))
+module _ (b : List ℕ) (i : ℕ) {before number method : ℕ} (e : before ≡ numberBefore b i)
+    (n : Field 4 b (entriesAt + entryLength * i) number) (m : Field 4 b (entriesAt + entryLength * i + 4) method) where
+  judged : frontWrong number before method || wrongEquivalent (entryAt b i) ≡ wrongEntry b i
+  unfolding wrongEntry wrongEquivalent entryIn
+  judged =
+      let r = entryAt b i in
+      let at = entriesAt + entryLength * i in
+      let p : numberAt 4 r 0 ≡ number = sym (field-behind at 0 (rw (add-zero at) n) .is) in
+      let q : method ≡ numberAt 1 r 4 + 256 * numberAt 3 r 5 = field-behind at 4 m .is ∙ numberAt-parts 1 3 r 4 in
+      let wrong = leb number before in
+      let other = not (within 1 6 (numberAt 1 r 4)) in
+      let filled = not (eqb (numberAt 3 r 5) 0) in
+      rw (p, q, method-alone (numberAt 1 r 4) (numberAt 3 r 5), ← e, ← or-assoc wrong other filled)
+      (sym (or-assoc (wrong || other || filled) (not (eqb (figureIn r gasCount) (equivalent (entryIn r .masses)))) (ltb limit (equivalent (entryIn r .masses)))))
+
+  -- where those break a rule it is wrong, and else its equivalent decides
+  pub front-wrong : not (frontWrong number before method) ≡ false → true ≡ wrongEntry b i
+  front-wrong t = rw (not-false (frontWrong number before method) t) at judged
+
+  pub front-right : {unequal : Bool} → not (frontWrong number before method) ≡ true → unequal ≡ wrongEquivalent (entryAt b i) → unequal ≡ wrongEntry b i
+  front-right t u = u ∙ rw (not-true (frontWrong number before method) t) at judged
 
 -- the figures of a right entry, as they are read; none is above the limit
 module _ {b : List ℕ} {i : ℕ} (e : RightEntry b i) where

@@ -10,6 +10,7 @@ ghost use Rattle.meaning.specs.Register.{mostSources};
 ghost use Rattle.meaning.specs.Report.{figureCount, reportTag, reportLayout, entriesAt, entryLength, reportLength, entryBytes, entryCount, entryAt, entryIn, entriesOf, headerRight, numberBefore, wrongEntry, wrongTotal, wellFormed};
 ghost use Rattle.meaning.specs.Report.{totals as Report·totals};
 ghost use Rattle.meaning.specs.Calls.{checked};
+ghost use Rattle.fields.specs.Fields.{Field};
 ghost use Rattle.reports.specs.Figures.{figuresAt, addedAt, Addable};
 ghost use Rattle.reports.specs.Stated.{Readable, figureBytes, statedEntry, statedFront, statedHeader, wrongEquivalent, frontRight};
 use basis::Answer;
@@ -80,17 +81,19 @@ fn is_equivalent_wrong(report: &[u8], at: usize) -> bool
     stated != right
 }
 
-// Whether entry i breaks a rule, where the entry before it has a number. The method and the zeros behind it are one number, which is a method
-// only where they are zeros.
-fn is_entry_wrong(report: &[u8], i: usize, before: u64) -> bool
-    requires { ⌜ (reportLength (i + 1) ≤ length (now report)) × (before ≡ numberBefore (now report) i) ⌝ }
+// Whether entry i breaks a rule, where its number and the one before it are known. The method and the zeros behind it are one number, which is
+// a method only where they are zeros.
+fn is_entry_wrong(report: &[u8], i: usize, number: u64, before: u64) -> bool
+    requires { ⌜ (reportLength (i + 1) ≤ length (now report)) × (before ≡ numberBefore (now report) i) × Field 4 (now report) (entriesAt + entryLength * i) number ⌝ }
     ensures { λ r. ⌜ r ≡ wrongEntry (now (report .entry)) i ⌝ }
 {
     let at = ENTRIES_AT + ENTRY_LENGTH * i;
-    let number = fields::u32_at(report, at);
     let method_and_zeros = fields::u32_at(report, at + 4);
-    let unequal = is_equivalent_wrong(report, at);
-    (number <= before) | !((1 <= method_and_zeros) & (method_and_zeros <= 6)) | unequal
+    let wrong = (number <= before) | !((1 <= method_and_zeros) & (method_and_zeros <= 6));
+    if !wrong {
+        return is_equivalent_wrong(report, at);
+    }
+    true
 }
 
 // "totals that are the sums"
@@ -118,13 +121,14 @@ fn are_entries_right(report: &[u8], n: usize) -> bool
     let mut before: u64 = 0;
     let mut i: usize = 0;
     while i < n {
-        let wrong = is_entry_wrong(report, i, before);
+        let at = ENTRIES_AT + ENTRY_LENGTH * i;
+        let number = fields::u32_at(report, at);
+        let wrong = is_entry_wrong(report, i, number, before);
         if wrong {
             return false;
         }
-        let at = ENTRIES_AT + ENTRY_LENGTH * i;
         add_figures(report, at + 8, &mut totals);
-        before = fields::u32_at(report, at);
+        before = number;
         i += 1;
     }
     are_totals_right(report, &totals)

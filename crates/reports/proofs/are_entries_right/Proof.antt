@@ -16,13 +16,13 @@ are-entries-right-spec =
     Inv-loop
     μ-loop
     (λ c. search checking)
+    (λ c. search checking)
+    (λ c. search checking)
+    (λ c κs. search checking)
     (λ c κs. search checking)
     (λ c. search checking)
     (λ c. search checking)
     (λ c. search checking)
-    (λ c. search checking)
-    (λ c. search checking)
-    (λ c κs. search checking)
     (λ c κs. search checking)
     (λ c. search checking)
     (λ c. search checking)

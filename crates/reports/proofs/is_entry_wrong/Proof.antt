@@ -1,5 +1,5 @@
 use borrow.Author.Needs.{needs}
-use Rattle.reports.proofs.Entries.{entry-judged}
+use Rattle.reports.proofs.Entries.{front-wrong, front-right}
 use Rattle.reports.proofs.is_entry_wrong.Statement.{statement}
 use Rattle.reports.proofs.is_entry_wrong.Tie as tie
 
@@ -12,5 +12,5 @@ is-entry-wrong-spec =
     (search needs)
     (search needs)
     (search needs)
-    (search needs)
-    (λ c. search (needs, entry-judged)))
+    (λ c. search (needs, front-right))
+    (λ c. search (needs, front-wrong)))
