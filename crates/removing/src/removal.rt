@@ -17,21 +17,31 @@ use reports::ENTRIES_AT;
 use reports::ENTRY_LENGTH;
 use reports::FIGURES;
 
-// The index of the entry that has a number, or the count where none has.
+// The index of the entry that has a number, or the count where none has. Numbers ascend, so it is sought by halves: entries before low have
+// smaller numbers, and those from high on have none that is smaller.
 pub fn index_of(report: &[u8], number: u64) -> usize
     requires { ⌜ Readable (now report) ⌝ }
     ensures { λ r. ⌜ r ≡ first (numberedAt (now (report .entry)) number) (entryCount (now (report .entry))) ⌝ }
 {
     let n = entry_count(report);
-    let mut i: usize = 0;
-    while i < n {
-        let hit = entry_number(report, i) == number;
-        if hit {
-            return i;
+    let mut low: usize = 0;
+    let mut high = n;
+    while low < high {
+        let mid = low + (high - low) / 2;
+        if entry_number(report, mid) < number {
+            low = mid + 1;
+            continue;
         }
-        i += 1;
+        high = mid;
     }
-    i
+    if n <= low {
+        return n;
+    }
+    let hit = entry_number(report, low) == number;
+    if hit {
+        return low;
+    }
+    n
 }
 
 // k entries from the i-th on, carried to another report as one stretch of bytes.
