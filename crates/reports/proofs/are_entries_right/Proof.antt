@@ -1,4 +1,5 @@
 use Prim.Native.Nat.{_-_}
+use native.Mathlib.Omega.{arith}
 use Rattle.reports.proofs.Pass.{Checked, checking}
 use Rattle.reports.proofs.are_entries_right.Statement.{statement}
 use Rattle.reports.proofs.are_entries_right.Tie as tie
@@ -16,16 +17,16 @@ are-entries-right-spec =
     Inv-loop
     μ-loop
     (λ c. search checking)
-    (λ c. search checking)
-    (λ c. search checking)
+    (omega arith)
+    (omega arith)
     (λ c κs. search checking)
     (λ c κs. search checking)
     (λ c. search checking)
-    (λ c. search checking)
+    (omega arith)
     (λ c. search checking)
     (λ c κs. search checking)
-    (λ c. search checking)
-    (λ c. search checking)
+    (omega arith)
+    (omega arith)
     (λ c. search checking)
     (λ c κs. search checking)
     (λ c. search checking))

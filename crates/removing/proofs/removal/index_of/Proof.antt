@@ -1,4 +1,5 @@
 use Prim.Native.Nat.{_-_}
+use native.Mathlib.Omega.{arith}
 use Rattle.removing.proofs.Removed.{Halving, halving}
 use Rattle.removing.proofs.removal.index_of.Statement.{statement}
 use Rattle.removing.proofs.removal.index_of.Tie as tie
@@ -17,13 +18,13 @@ index-of-spec =
     μ-loop
     (λ c κs. search halving)
     (λ c. search halving)
-    (λ c. search halving)
-    (λ c. search halving)
+    (omega arith)
+    (omega arith)
     (λ c κs. search halving)
+    (omega arith)
+    (omega arith)
     (λ c. search halving)
-    (λ c. search halving)
-    (λ c. search halving)
-    (λ c. search halving)
+    (omega arith)
     (λ c. search halving)
     (λ c. search halving)
     (λ c κs. search halving)
