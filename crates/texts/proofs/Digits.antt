@@ -1,95 +1,149 @@
--- Decimal numbers: how many digits they have, and how they are written from the last to the first. Assumes nothing.
+-- Decimal numbers as they are put, eight digits at a time from the last to the first. Assumes nothing.
 use mathlib.Core.List.{List, [], _∷_, _++_, append-assoc, append-nil}
-use mathlib.Core.Path.{_≡_, sym, ap, _∙_}
-use Prim.Native.Nat.{ℕ, _+_, _-_, _/_, _%_, _≤_, _<_}
+use mathlib.Core.Path.{_≡_, refl, sym, ap, _∙_}
+use Prim.Native.Nat.{ℕ, zero, suc, _+_, _-_, _/_, _%_, _≤_, _<_}
+use native.Mathlib.Decide.{decLt}
 use native.Mathlib.Numerals.{add-one}
 use native.Mathlib.Omega.{arith}
 use borrow.Author.Needs.{needs}
 use lib.ListN.{length, take, drop, set, length-append}
-use lib.Seq.{set-split, drop-at, length-take-le}
-use mir.Syntax.{w64}
-use mir.Val.{Fits}
-use Rattle.basis.specs.Bytes.{splice, Written}
-use Rattle.basis.proofs.Bytes.{splice-none, length-written, read-before}
-use Rattle.meaning.specs.Text.{digit, digits, decimal}
-use Rattle.meaning.proofs.Decimals.{decimal-one, decimal-more, decimal-few as few-digits}
+use lib.Seq.{set-split, drop-at, drop-drop, length-take-le}
+use Rattle.basis.specs.Bytes.{Bytes, bytesOf, numberOf, splice, Written}
+use Rattle.basis.proofs.Bytes.{length-written, append-bytes, bytesOf-numberOf}
+use Rattle.meaning.specs.Text.{digit, decimal}
+use Rattle.meaning.proofs.Decimals.{decimal-one, decimal-more}
 use Rattle.texts.specs.Digits.{Counted, Ends, Put}
+use Rattle.texts.specs.Words.{twoDigits, fourDigits, eightDigits}
+use Rattle.texts.proofs.Counts.{some-digit}
 
--- no number of 64 bits has more than twenty digits
-pub decimal-few : (n : ℕ) → Fits w64 n → length (decimal n) ≤ 20
-decimal-few n f = few-digits 19 n (omega (arith, f .fits))
+-- two, four and eight digits behind those of the number without them
+two-more : (n : ℕ) → 100 ≤ n → decimal n ≡ decimal (n / 100) ++ twoDigits (n % 100)
+two-more n l =
+    let a : n / 10 / 10 ≡ n / 100 = omega arith in
+    let b : n / 10 % 10 ≡ n % 100 / 10 = omega arith in
+    let c : n % 10 ≡ n % 100 % 10 = omega arith in
+    decimal-more n (omega arith) ∙ rw (decimal-more (n / 10) (omega arith), a, b, c) (append-assoc (decimal (n / 100)) (digit (n % 100 / 10) ∷ []) (digit (n % 100 % 10) ∷ []))
 
--- one digit, one more, and four more
-pub count-one : (n : ℕ) → n < 10 → 1 ≡ length (decimal n)
-count-one n l = sym (ap length (decimal-one n l))
-
-count-next : (n : ℕ) → 10 ≤ n → length (decimal n) ≡ length (decimal (n / 10)) + 1
-count-next n l = ap length (decimal-more n l) ∙ length-append (decimal (n / 10)) (digit (n % 10) ∷ [])
-
-pub count-two : (n : ℕ) → 10 ≤ n → n < 100 → 2 ≡ length (decimal n)
-count-two n l h = omega (arith, count-next n l, count-one (n / 10) (omega arith))
-
-pub count-three : (n : ℕ) → 100 ≤ n → n < 1000 → 3 ≡ length (decimal n)
-count-three n l h = omega (arith, count-next n (omega arith), count-two (n / 10) (omega arith) (omega arith))
-
-pub count-four : (n : ℕ) → 1000 ≤ n → n < 10000 → 4 ≡ length (decimal n)
-count-four n l h = omega (arith, count-next n (omega arith), count-three (n / 10) (omega arith) (omega arith))
-
-four-more : (n : ℕ) → 10000 ≤ n → length (decimal n) ≡ length (decimal (n / 10000)) + 4
+four-more : (n : ℕ) → 10000 ≤ n → decimal n ≡ decimal (n / 10000) ++ fourDigits (n % 10000)
 four-more n l =
-    let e : n / 10 / 10 / 10 / 10 ≡ n / 10000 = omega arith in
-    let c = rw e at (count-next (n / 10 / 10 / 10) (omega arith)) in
-    omega (arith, count-next n (omega arith), count-next (n / 10) (omega arith), count-next (n / 10 / 10) (omega arith))
+    let a : n / 100 / 100 ≡ n / 10000 = omega arith in
+    let b : n / 100 % 100 ≡ n % 10000 / 100 = omega arith in
+    let c : n % 100 ≡ n % 10000 % 100 = omega arith in
+    two-more n (omega arith)
+    ∙ rw (two-more (n / 100) (omega arith), a, b, c) (append-assoc (decimal (n / 10000)) (twoDigits (n % 10000 / 100)) (twoDigits (n % 10000 % 100)))
 
-pub ruleset few = (needs, count-one, count-two, count-three, count-four)
+eight-more : (n : ℕ) → 100000000 ≤ n → decimal n ≡ decimal (n / 100000000) ++ eightDigits (n % 100000000)
+unfolding eightDigits
+eight-more n l =
+    let a : n / 10000 / 10000 ≡ n / 100000000 = omega arith in
+    let b : n / 10000 % 10000 ≡ n % 100000000 / 10000 = omega arith in
+    let c : n % 10000 ≡ n % 100000000 % 10000 = omega arith in
+    four-more n (omega arith)
+    ∙ rw (four-more (n / 10000) (omega arith), a, b, c) (append-assoc (decimal (n / 100000000)) (fourDigits (n % 100000000 / 10000)) (fourDigits (n % 100000000 % 10000)))
 
--- k digits are counted, and those of rest are left
-pub record Counting (n rest k : ℕ) : Type 0 where
-  pub sum : k + length (decimal rest) ≡ length (decimal n)
-  pub most : length (decimal n) ≤ 20
+-- ys ends with the digits of n
+record Tail (ys : List ℕ) (n : ℕ) : Type 0 where
+  pub zeros : List ℕ
+  pub is : ys ≡ zeros ++ decimal n
 
-pub counted-one : (n : ℕ) → n < 10 → Counted n 1
-counted-one n l = record { count = count-one n l; few = omega arith }
+tail-low : {ys : List ℕ} {n : ℕ} (xs : List ℕ) → Tail ys n → Tail (xs ++ ys) n
+tail-low {n = n} xs t = record { zeros = xs ++ t .zeros; is = rw (t .is) (sym (append-assoc xs (t .zeros) (decimal n))) }
 
-pub counting-none : (n : ℕ) → Fits w64 n → Counting n n 0
-counting-none n f = record { sum = omega arith; most = decimal-few n f }
+tail-high : {xs : List ℕ} {m n : ℕ} (ys : List ℕ) → Tail xs m → decimal n ≡ decimal m ++ ys → Tail (xs ++ ys) n
+tail-high {m = m} ys t e = record { zeros = t .zeros; is = rw (t .is, e) (append-assoc (t .zeros) (decimal m) ys) }
 
-module _ {n rest k : ℕ} (c : Counting n rest k) where
-  pub counting-more : 10000 ≤ rest → Counting n (rest / 10000) (k + 4)
-  counting-more h = record { sum = omega (arith, c .sum, four-more rest h); most = c .most }
+tail-two : (n : ℕ) → n < 100 → Tail (twoDigits n) n
+tail-two n l = by (decLt n 10)
+  where
+    by : Dec (n < 10) → Tail (twoDigits n) n
+    by (yes s) = let e : n % 10 ≡ n = omega arith in record { zeros = digit (n / 10) ∷ []; is = rw (e, decimal-one n s) }
+    by (no s) = record { zeros = []; is = rw (decimal-more n (omega arith), decimal-one (n / 10) (omega arith)) }
 
-  pub counting-all : {r : ℕ} → r ≡ length (decimal rest) → Counted n (k + r)
-  counting-all e = record { count = omega (arith, c .sum); few = omega (arith, c .sum, c .most) }
+tail-four : (n : ℕ) → n < 10000 → Tail (fourDigits n) n
+tail-four n l = by (decLt n 100)
+  where
+    by : Dec (n < 100) → Tail (fourDigits n) n
+    by (yes s) = let e : n % 100 ≡ n = omega arith in rw e (tail-low (twoDigits (n / 100)) (tail-two n s))
+    by (no s) = tail-high (twoDigits (n % 100)) (tail-two (n / 100) (omega arith)) (two-more n (omega arith))
 
-pub ruleset counting = (needs, counted-one, counting-none, counting-more, counting-all)
+tail-eight : (n : ℕ) → n < 100000000 → Tail (eightDigits n) n
+unfolding eightDigits
+tail-eight n l = by (decLt n 10000)
+  where
+    by : Dec (n < 10000) → Tail (fourDigits (n / 10000) ++ fourDigits (n % 10000)) n
+    by (yes s) = let e : n % 10000 ≡ n = omega arith in rw e (tail-low (fourDigits (n / 10000)) (tail-four n s))
+    by (no s) = tail-high (fourDigits (n % 10000)) (tail-four (n / 10000) (omega arith)) (four-more n (omega arith))
 
 -- a byte that is stored is written
 pub written-one : (xs : List ℕ) (at x : ℕ) → at < length xs → Written xs at (x ∷ []) (set xs at x)
 unfolding splice
 written-one xs at x h = record { fits = omega arith; is = simp (set-split, add-one, append-assoc) }
 
--- what is written before something that was written already makes one with it
-pub written-before : {xs ys zs us vs : List ℕ} {at n : ℕ} → Written xs n us zs → Written zs at ys vs → n ≡ at + length ys → Written xs at (ys ++ us) vs
+-- what is written is put
+pub put-written : {xs ys zs : List ℕ} {at end : ℕ} → Written xs at ys zs → end ≡ at + length ys → Put xs at ys zs end
 unfolding splice
-written-before {xs} {ys} {zs} {us} {vs} {at} {n} w v e =
-    let h : length (take n xs) ≡ n = length-take-le n xs (omega (arith, w .fits)) in
-    let d : drop n zs ≡ us ++ drop (n + length us) xs = rw (w .is, append-assoc) (drop-at (take n xs) (us ++ drop (n + length us) xs) n h) in
-    let m : n + length us ≡ at + length (ys ++ us) = rw length-append (omega arith) in
+put-written {xs} {ys} {zs} {at} {end} w e =
+    let h : length (take at xs) ≡ at = length-take-le at xs (omega (arith, w .fits)) in
     record {
-      fits = rw length-append (omega (arith, w .fits));
-      is = v .is ∙ rw (read-before w 0 at (omega arith), ← e, d, m) (simp append-assoc);
+      within = omega (arith, w .fits);
+      same = length-written w;
+      ends = e;
+      is = rw (w .is, e, append-assoc) (drop-at (take at xs) (ys ++ drop (at + length ys) xs) at h);
     }
 
 pub put-none : (xs : List ℕ) (end : ℕ) → end ≤ length xs → Put xs end [] xs end
-put-none xs end h = record { written = record { fits = omega arith; is = sym (splice-none xs end) }; ends = omega arith }
+put-none xs end h = record { within = h; same = refl; ends = omega arith; is = refl }
 
+-- what is put before something that was put already makes one with it
 pub put-before : {xs ys zs us vs : List ℕ} {at n end : ℕ} → Put xs n us zs end → Put zs at ys vs n → Put xs at (ys ++ us) vs end
-put-before {ys = ys} {us = us} w v =
-    record { written = written-before (w .written) (v .written) (v .ends); ends = rw length-append (omega (arith, w .ends, v .ends)) }
+put-before {xs} {ys} {zs} {us} {end = end} w v =
+    record {
+      within = w .within;
+      same = v .same ∙ w .same;
+      ends = rw length-append (omega (arith, w .ends, v .ends));
+      is = v .is ∙ ap (λ (bs : List ℕ). ys ++ bs) (w .is) ∙ sym (append-assoc ys us (drop end xs));
+    }
 
--- the digits behind those of rest are written from p on
+-- the end of what is put is put, from where it begins
+put-tail : {xs zs : List ℕ} {at end r : ℕ} (before ys : List ℕ) → Put xs at (before ++ ys) zs end → end ≡ r + length ys → Put xs r ys zs end
+put-tail {xs} {zs} {at} {end} {r} before ys w e =
+    let q : at + length before ≡ r = omega (arith, w .ends, length-append before ys) in
+    let d : drop (length before) (drop at zs) ≡ ys ++ drop end xs = rw (w .is, append-assoc) (drop-at before (ys ++ drop end xs) (length before) refl) in
+    record { within = w .within; same = w .same; ends = e; is = rw (← q, ← drop-drop (length before) at zs) d }
+
+two-bytes : (n : ℕ) → n < 100 → Bytes (twoDigits n)
+two-bytes n l zero = omega arith
+two-bytes n l (suc zero) = omega arith
+two-bytes n l (suc (suc i)) = omega arith
+
+four-bytes : (n : ℕ) → n < 10000 → Bytes (fourDigits n)
+four-bytes n l = append-bytes (twoDigits (n / 100)) (twoDigits (n % 100)) (two-bytes (n / 100) (omega arith)) (two-bytes (n % 100) (omega arith))
+
+eight-bytes : (n : ℕ) → n < 100000000 → Bytes (eightDigits n)
+unfolding eightDigits
+eight-bytes n l = append-bytes (fourDigits (n / 10000)) (fourDigits (n % 10000)) (four-bytes (n / 10000) (omega arith)) (four-bytes (n % 10000) (omega arith))
+
+-- eight digits that are written as a number are put
+eight-put : {b c : List ℕ} {p v n : ℕ} → 8 ≤ p → n < 100000000 → Written b (p - 8) (bytesOf 8 v) c → v ≡ numberOf (eightDigits n) → Put b (p - 8) (eightDigits n) c p
+unfolding eightDigits
+eight-put {v = v} {n = n} l h w e =
+    let d : bytesOf 8 v ≡ eightDigits n = rw e (bytesOf-numberOf (eightDigits n) (eight-bytes n h)) in
+    put-written (rw d at w) (omega arith)
+
+-- a digit alone
+module _ (b : List ℕ) (end n : ℕ) (h : Ends b (decimal n) end) where
+  pub digit-some : 0 < end
+  digit-some = omega (arith, h .short)
+
+  pub digit-at : end - 1 < length b
+  digit-at = omega (arith, h .short, h .within)
+
+  pub digit-put : n < 10 → Put b (end - 1) (decimal n) (set b (end - 1) (48 + n)) end
+  digit-put l = rw (decimal-one n l) (put-written (written-one b (end - 1) (digit n) digit-at) (omega (arith, digit-some)))
+
+-- the digits behind those of rest are put from p on
 pub record Spelling (b₀ : List ℕ) (end n : ℕ) (b : List ℕ) (p rest : ℕ) : Type 0 where
-  pub room : length (decimal n) ≤ end
+  pub room : 7 + length (decimal n) ≤ end
   pub done : List ℕ
   pub put : Put b₀ p done b end
   pub whole : decimal rest ++ done ≡ decimal n
@@ -99,39 +153,38 @@ spelling-none b end n h = record { room = h .short; done = []; put = put-none b 
 
 module _ {b₀ : List ℕ} {end n : ℕ} {b : List ℕ} {p rest : ℕ} (s : Spelling b₀ end n b p rest) where
   pub spelling-kept : length b ≡ length b₀
-  spelling-kept = length-written (s .put .written)
+  spelling-kept = s .put .same
 
-  left : length (decimal rest) ≤ p
-  left = omega (arith, s .room, s .put .ends, ap length (s .whole), length-append (decimal rest) (s .done))
+  pub spelling-some : 8 ≤ p
+  spelling-some = omega (arith, s .room, s .put .ends, ap length (s .whole), length-append (decimal rest) (s .done), some-digit rest)
 
-  pub spelling-at : 0 < p → p - 1 < length b
-  spelling-at l = omega (arith, spelling-kept, s .put .written .fits, s .put .ends)
+  pub spelling-at : p - 8 + 8 ≤ length b
+  spelling-at = omega (arith, spelling-some, s .put .same, s .put .within, s .put .ends)
 
-  stored : (v : ℕ) → 0 < p → Put b (p - 1) (v ∷ []) (set b (p - 1) v) p
-  stored v l =
-      record {
-        written = written-one b (p - 1) v (spelling-at l);
-        ends = omega arith;
-      }
+  module _ (v : ℕ) {c : List ℕ} (w : Written b (p - 8) (bytesOf 8 v) c) where
+    pub spelling-same : length c ≡ length b₀
+    spelling-same = length-written w ∙ spelling-kept
 
-  module _ (h : 10 ≤ rest) where
-    pub spelling-some : 0 < p
-    spelling-some = omega (arith, left, count-next rest h)
-
-    pub spelling-more : Spelling b₀ end n (set b (p - 1) (48 + rest % 10)) (p - 1) (rest / 10)
-    spelling-more =
+    pub spelling-more : 100000000 ≤ rest → v ≡ numberOf (eightDigits (rest % 100000000)) → Spelling b₀ end n c (p - 8) (rest / 100000000)
+    spelling-more h e =
         record {
           room = s .room;
-          done = digit (rest % 10) ∷ s .done;
-          put = put-before (s .put) (stored (digit (rest % 10)) spelling-some);
-          whole = sym (append-assoc (decimal (rest / 10)) (digit (rest % 10) ∷ []) (s .done)) ∙ ap (λ (ds : List ℕ). ds ++ s .done) (sym (decimal-more rest h)) ∙ s .whole;
+          done = eightDigits (rest % 100000000) ++ s .done;
+          put = put-before (s .put) (eight-put spelling-some (omega arith) w e);
+          whole =
+              sym (append-assoc (decimal (rest / 100000000)) (eightDigits (rest % 100000000)) (s .done))
+              ∙ ap (λ (ds : List ℕ). ds ++ s .done) (sym (eight-more rest h)) ∙ s .whole;
         }
 
-  module _ (h : rest < 10) where
-    pub spelling-last : 0 < p
-    spelling-last = omega (arith, left, count-one rest h)
+    pub spelling-all : {k : ℕ} → rest < 100000000 → v ≡ numberOf (eightDigits rest) → Counted n k → Put b₀ (end - k) (decimal n) c end
+    spelling-all {k} h e d =
+        let t = tail-eight rest h in
+        let a : eightDigits rest ++ s .done ≡ t .zeros ++ decimal n =
+        rw (t .is) (append-assoc (t .zeros) (decimal rest) (s .done)) ∙ ap (λ (ds : List ℕ). t .zeros ++ ds) (s .whole) in
+        put-tail (t .zeros) (decimal n) (rw a at (put-before (s .put) (eight-put spelling-some h w e))) (omega (arith, d .count, s .room))
 
-    pub spelling-all : Put b₀ (p - 1) (decimal n) (set b (p - 1) (48 + rest)) end
-    spelling-all = rw (sym (s .whole) ∙ ap (λ (ds : List ℕ). ds ++ s .done) (decimal-one rest h)) (put-before (s .put) (stored (digit rest) spelling-last))
+  pub spelling-within : {k : ℕ} → Counted n k → k ≤ end
+  spelling-within d = omega (arith, d .count, s .room)
 
-pub ruleset spelling = (needs, spelling-none, spelling-kept, spelling-at, spelling-some, spelling-more, spelling-last, spelling-all)
+pub ruleset spelling =
+    (needs, digit-some, digit-at, digit-put, spelling-none, spelling-kept, spelling-some, spelling-at, spelling-same, spelling-more, spelling-all, spelling-within)

@@ -1,18 +1,20 @@
 -- Fields and lines as they are written, and how long they are. Assumes nothing.
 use mathlib.Core.List.{List, [], _∷_, _++_, append-assoc}
-use mathlib.Core.Path.{_≡_, refl, ap, subst, _∙_}
+use mathlib.Core.Path.{_≡_, refl, ap, _∙_}
 use Prim.Native.Nat.{ℕ, _+_, _-_, _≤_, _<_}
 use native.Mathlib.Omega.{arith}
 use mir.Syntax.{w32, w64}
 use mir.Val.{Fits}
 use borrow.Author.Needs.{needs}
-use lib.ListN.{length, set, length-append, length-set}
+use lib.ListN.{length, take, drop, set, length-append, length-set}
+use lib.Seq.{take-at}
 use Rattle.basis.proofs.Lists.{counted}
 use Rattle.basis.specs.Bytes.{ascii, Written}
 use Rattle.basis.proofs.Bytes.{written-then, length-written}
 use Rattle.meaning.specs.Text.{decimal, textLine, refusedLine}
-use Rattle.texts.specs.Digits.{Counted, field, pair, acceptedLine, Ends, Put, Fronted}
-use Rattle.texts.proofs.Digits.{decimal-few, written-one, put-before}
+use Rattle.texts.specs.Digits.{field, pair, acceptedLine, Ends, Put, Placed, Fronted}
+use Rattle.texts.proofs.Counts.{twenty-digits}
+use Rattle.texts.proofs.Digits.{written-one, put-written, put-before}
 
 pub length-field : (n after : ℕ) → length (field n after) ≡ length (decimal n) + 1
 unfolding field
@@ -21,7 +23,7 @@ length-field n after = length-append (decimal n) (after ∷ [])
 -- a field up to a place: the byte behind the number, and its digits
 module _ (n after end : ℕ) (xs : List ℕ) (h : Ends xs (field n after) end) where
   pub field-some : 0 < end
-  field-some = omega (arith, h .short, length-field n after)
+  field-some = omega (arith, h .short)
 
   pub field-at : end - 1 < length xs
   field-at = omega (arith, field-some, h .within)
@@ -29,45 +31,60 @@ module _ (n after end : ℕ) (xs : List ℕ) (h : Ends xs (field n after) end) w
   pub field-room : Ends (set xs (end - 1) after) (decimal n) (end - 1)
   field-room = record { short = omega (arith, h .short, length-field n after); within = rw length-set (omega (arith, h .within)) }
 
-  pub field-kept : {r : ℕ} {ys : List ℕ} → Put (set xs (end - 1) after) r (decimal n) ys (end - 1) → length ys ≡ length xs
-  field-kept w = length-written (w .written) ∙ length-set xs (end - 1) after
+  module _ {r : ℕ} {ys : List ℕ} (w : Put (set xs (end - 1) after) r (decimal n) ys (end - 1)) where
+    pub field-kept : length ys ≡ length xs
+    field-kept = w .same ∙ length-set xs (end - 1) after
 
-  pub field-put : {r : ℕ} {ys : List ℕ} → Put (set xs (end - 1) after) r (decimal n) ys (end - 1) → Put xs r (field n after) ys end
-  unfolding field
-  field-put w = put-before (record { written = written-one xs (end - 1) after field-at; ends = omega (arith, field-some) }) w
+    pub field-put : Put xs r (field n after) ys end
+    unfolding field
+    field-put = put-before (put-written (written-one xs (end - 1) after field-at) (omega (arith, field-some))) w
 
 pub ruleset fielding = (needs, field-some, field-at, field-room, field-kept, field-put)
 
--- two fields, the second first
-module _ (one other after end : ℕ) (xs : List ℕ) (h : Ends xs (pair one other after) end) where
-  length-pair : length (pair one other after) ≡ length (field one 32) + length (field other after)
-  unfolding pair
-  length-pair = length-append (field one 32) (field other after)
+-- two texts, the second first
+module _ {xs : List ℕ} {end : ℕ} (ys us : List ℕ) (h : Ends xs (ys ++ us) end) where
+  pub second-room : Ends xs us end
+  second-room = record { short = omega (arith, h .short, length-append ys us); within = h .within }
 
-  pub second-room : Ends xs (field other after) end
-  second-room = record { short = omega (arith, h .short, length-pair); within = h .within }
+  pub first-room : {zs : List ℕ} {p : ℕ} → Put xs p us zs end → Ends zs ys p
+  first-room w = record { short = omega (arith, h .short, length-append ys us, w .ends); within = omega (arith, w .within, w .same, w .ends) }
+
+module _ (one other after end : ℕ) (xs : List ℕ) (h : Ends xs (pair one other after) end) where
+  pub pair-second : Ends xs (field other after) end
+  unfolding pair
+  pair-second = second-room (field one 32) (field other after) h
 
   module _ {p : ℕ} {ys : List ℕ} (w : Put xs p (field other after) ys end) where
-    pub first-room : Ends ys (field one 32) p
-    first-room = record { short = omega (arith, h .short, length-pair, w .ends); within = omega (arith, h .within, w .ends, length-written (w .written)) }
+    pub pair-first : Ends ys (field one 32) p
+    unfolding pair
+    pair-first = first-room (field one 32) (field other after) h w
 
     pub pair-put : {r : ℕ} {zs : List ℕ} → Put ys r (field one 32) zs p → Put xs r (pair one other after) zs end
     unfolding pair
     pair-put v = put-before w v
 
-pub ruleset pairing = (needs, second-room, first-room, pair-put)
+pub ruleset pairing = (needs, pair-second, pair-first, pair-put)
 
--- a field from a place on: its digits are counted, and it ends there
-module _ {n k : ℕ} (at after : ℕ) (xs : List ℕ) (c : Counted n k) (h : at + (length (decimal n) + 1) ≤ length xs) where
-  pub end-room : Ends xs (field n after) (at + k + 1)
-  end-room = record { short = omega (arith, c .count, length-field n after); within = omega (arith, c .count) }
+-- a field in a room of its own
+pub own-room : (n after : ℕ) (xs : List ℕ) → Fits w64 n → length xs ≡ 28 → Ends xs (field n after) 28
+own-room n after xs f e = record { short = omega (arith, length-field n after, twenty-digits n f); within = omega arith }
 
-  pub end-put : {r : ℕ} {ys : List ℕ} → Put xs r (field n after) ys (at + k + 1) → Put xs at (field n after) ys (at + k + 1)
-  end-put {r} {ys} w =
-      let e : r ≡ at = omega (arith, c .count, length-field n after, w .ends) in
-      subst (λ (p : ℕ). Put xs p (field n after) ys (at + k + 1)) e w
+-- what stands up to the end of a room, and is copied
+module _ {room ys line : List ℕ} {from end : ℕ} (w : Put room from ys line end) where
+  pub own-end : take (end - from) (drop from line) ≡ ys
+  own-end = rw (w .is) (take-at ys (drop end room) (end - from) (omega (arith, w .ends)))
 
-pub ruleset ending = (needs, end-room, end-put)
+  pub own-written : {xs zs : List ℕ} {at : ℕ} → Written xs at (take (end - from) (drop from line)) zs → Written xs at ys zs
+  own-written v = rw own-end at v
+
+  pub own-placed : {xs zs : List ℕ} {at : ℕ} → Written xs at (take (end - from) (drop from line)) zs → Placed xs at ys zs (at + (end - from))
+  own-placed v = record { written = own-written v; ends = omega (arith, w .ends) }
+
+pub own-fits : {room line : List ℕ} {from : ℕ} (xs : List ℕ) (at n after : ℕ) → Put room from (field n after) line 28 → at + (length (decimal n) + 1) ≤ length xs
+    → at + length (take (28 - from) (drop from line)) ≤ length xs
+own-fits xs at n after w h = rw (own-end w) (omega (arith, length-field n after))
+
+pub ruleset own = (needs, own-fits, own-placed)
 
 -- what is written to the front, and as long as it says
 pub fronted : {xs ys zs : List ℕ} {r : ℕ} → Written xs 0 ys zs → r ≡ length ys → Fronted xs ys zs r
@@ -77,9 +94,9 @@ fronted {zs = zs} {r = r} w c =
 
 -- a number alone with the byte behind it
 pub alone-room : (n : ℕ) (xs : List ℕ) → Fits w64 n → length xs ≡ 21 → 0 + (length (decimal n) + 1) ≤ length xs
-alone-room n xs p e = omega (arith, decimal-few n p)
+alone-room n xs p e = omega (arith, twenty-digits n p)
 
-pub alone-put : (n after : ℕ) {xs ys : List ℕ} {r : ℕ} → Put xs 0 (field n after) ys r → Fronted xs (field n after) ys r
+pub alone-put : (n after : ℕ) {xs ys : List ℕ} {r : ℕ} → Placed xs 0 (field n after) ys r → Fronted xs (field n after) ys r
 alone-put n after g = fronted (g .written) (omega (arith, g .ends))
 
 pub ruleset alone = (needs, alone-room, alone-put)
@@ -87,32 +104,32 @@ pub ruleset alone = (needs, alone-room, alone-put)
 -- the line of an acceptance: its word, its length
 module _ (n : ℕ) {xs ys : List ℕ} (p : Fits w64 n) (e : length xs ≡ 50) (w : Written xs 0 (ascii "accepted ") ys) where
   pub accepted-room : 9 + (length (decimal n) + 1) ≤ length ys
-  accepted-room = omega (arith, decimal-few n p, length-written w)
+  accepted-room = omega (arith, twenty-digits n p, length-written w)
 
-  pub accepted-put : {zs : List ℕ} {r : ℕ} → Put ys 9 (field n 10) zs r → Fronted xs (acceptedLine n) zs r
+  pub accepted-put : {zs : List ℕ} {r : ℕ} → Placed ys 9 (field n 10) zs r → Fronted xs (acceptedLine n) zs r
   unfolding acceptedLine
   accepted-put g = fronted (written-then w (g .written) refl) (omega (arith, g .ends))
 
 pub ruleset accepting = (needs, accepted-room, accepted-put)
 
 -- the line of a refusal: its word, its number, its place
-module _ (number place : ℕ) {xs ys : List ℕ} (n : Fits w32 number) (p : Fits w64 place) (e : length xs ≡ 50) (w : Written xs 0 (ascii "refused ") ys) where
+module _ (number place : ℕ) {xs ys : List ℕ} (n : Fits w32 number) (p : Fits w64 place) (e : 50 ≤ length xs) (w : Written xs 0 (ascii "refused ") ys) where
   number-fits : Fits w64 number
   number-fits = record { fits = omega (arith, n .fits) }
 
   pub number-room : 8 + (length (decimal number) + 1) ≤ length ys
-  number-room = omega (arith, decimal-few number number-fits, length-written w)
+  number-room = omega (arith, twenty-digits number number-fits, length-written w)
 
-  module _ {zs : List ℕ} {at : ℕ} (f : Put ys 8 (field number 32) zs at) where
+  module _ {zs : List ℕ} {at : ℕ} (f : Placed ys 8 (field number 32) zs at) where
     pub place-room : at + (length (decimal place) + 1) ≤ length zs
     place-room =
-        omega (arith, decimal-few number number-fits, decimal-few place p, length-field number 32, f .ends, length-written w, length-written (f .written))
+        omega (arith, twenty-digits number number-fits, twenty-digits place p, length-field number 32, f .ends, length-written w, length-written (f .written))
 
     refusal-parts : ascii "refused " ++ (field number 32 ++ field place 10) ≡ refusedLine number place
     unfolding refusedLine textLine field
     refusal-parts = rw (append-assoc (decimal number) (32 ∷ []) (decimal place ++ (10 ∷ [])))
 
-    pub refusal-put : {us : List ℕ} {r : ℕ} → Put zs at (field place 10) us r → Fronted xs (refusedLine number place) us r
+    pub refusal-put : {us : List ℕ} {r : ℕ} → Placed zs at (field place 10) us r → Fronted xs (refusedLine number place) us r
     refusal-put {us} {r} g =
         let v : Written xs 0 (refusedLine number place) us = rw refusal-parts at (written-then w (written-then (f .written) (g .written) (f .ends)) refl) in
         let c : r ≡ length (refusedLine number place) =

@@ -1,5 +1,5 @@
--- The lines of a report's text: their numbers as they are read, their length, and how they are put. Assumes nothing.
-use mathlib.Core.List.{List, [], _∷_, _++_, append-assoc}
+-- The lines of a report's text: their numbers as they are read, and how long they are. Assumes nothing.
+use mathlib.Core.List.{List, [], _∷_}
 use mathlib.Core.Path.{_≡_, sym, ap, _∙_}
 use Prim.Native.Nat.{ℕ, _+_, _*_, _≤_, _<_}
 use native.Mathlib.Nat.{add-zero}
@@ -11,18 +11,18 @@ use borrow.Author.Needs.{needs}
 use lib.ListN.{length, getD, drop, length-append, drop-of-length-le}
 use lib.Seq.{drop-cons}
 use Rattle.basis.specs.Bytes.{numberAt}
-use Rattle.basis.proofs.Bytes.{length-written}
+use Rattle.basis.proofs.Counting.{length-counted, at-counted}
 use Rattle.basis.proofs.Rows.{numberAt-drop}
-use Rattle.meaning.specs.Report.{figureCount, entriesAt, entryLength, entryCount, entryAt, entryIn}
+use Rattle.meaning.specs.Report.{Entry, figureCount, entriesAt, entryLength, entryCount, entryAt, entryIn}
 use Rattle.meaning.specs.Text.{decimal, textLine}
 use Rattle.meaning.proofs.Reports.{formed, count-is, figures-read, totals-read}
 use Rattle.fields.specs.Fields.{Field}
-use Rattle.reports.specs.Figures.{figuresAt}
+use Rattle.reports.specs.Figures.{figureAt, figuresAt}
 use Rattle.reports.specs.Stated.{Readable}
 use Rattle.reports.proofs.Entries.{figures-drop}
-use Rattle.texts.specs.Digits.{Counted, field, pair, Ends, Put}
+use Rattle.texts.specs.Digits.{Counted}
 use Rattle.texts.specs.Rows.{Measured, headNumbers, entryNumbers}
-use Rattle.texts.proofs.Digits.{put-before}
+use Rattle.texts.proofs.Counts.{count-one, some-digit}
 
 -- the bytes of fields, each with the byte behind it
 unfoldable pub spans : List ℕ → ℕ
@@ -35,102 +35,108 @@ length-line [] h = absurd (omega arith)
 length-line (n ∷ []) h = rw (length-append (decimal n) (10 ∷ []), add-zero)
 length-line (n ∷ m ∷ ns) h = rw (length-append (decimal n) (32 ∷ textLine (m ∷ ns)), length-line (m ∷ ns) (omega arith)) (omega arith)
 
--- k fields are measured
-pub record Measuring (ns : List ℕ) (total k : ℕ) : Type 0 where
-  pub low : k ≤ length ns
-  pub rest : total + spans (drop k ns) ≡ spans ns
+pub length-figures : (b : List ℕ) (at : ℕ) → length (figuresAt figureCount b at) ≡ figureCount
+unfolding figuresAt
+length-figures b at = length-counted (figureAt b at) 0 figureCount
+
+figure-is : (b : List ℕ) (at k : ℕ) → k < figureCount → getD (figuresAt figureCount b at) k 0 ≡ numberAt 8 b (at + 8 * k)
+unfolding figuresAt
+figure-is b at k l = at-counted (figureAt b at) 0 figureCount k l
+
+-- k figures are measured
+pub record Measuring (b : List ℕ) (at total k : ℕ) : Type 0 where
+  pub low : k ≤ figureCount
+  pub rest : total + spans (drop k (figuresAt figureCount b at)) ≡ spans (figuresAt figureCount b at)
   pub small : total ≤ 21 * k
 
-pub measuring-none : (ns : List ℕ) → Measuring ns 0 0
-measuring-none ns = record { low = omega arith; rest = omega arith; small = omega arith }
+pub measuring-none : (b : List ℕ) (at : ℕ) → Measuring b at 0 0
+measuring-none b at = record { low = omega arith; rest = omega arith; small = omega arith }
 
-module _ {ns : List ℕ} {total k : ℕ} (m : Measuring ns total k) (e : length ns ≡ figureCount) where
-  pub measuring-more : {digits : ℕ} → k < length ns → Counted (getD ns k 0) digits → Measuring ns (total + (digits + 1)) (k + 1)
-  unfolding spans
-  measuring-more {digits} l c =
-      let s : spans (drop k ns) ≡ length (decimal (getD ns k 0)) + 1 + spans (drop (k + 1) ns) = rw (drop-cons ns k 0 l, add-one k) in
-      record { low = omega arith; rest = omega (arith, m .rest, c .count); small = omega (arith, m .small, c .few) }
+module _ {b : List ℕ} {at total k : ℕ} (m : Measuring b at total k) where
+  abbrev figures : List ℕ
+  figures = figuresAt figureCount b at
 
-  pub measuring-all : length ns ≤ k → Measured ns total
+  module _ {figure digits : ℕ} (l : k < figureCount) (f : Field 8 b (at + 8 * k) figure) (c : Counted figure digits) where
+    pub measuring-fits : Fits w64 (total + (digits + 1))
+    measuring-fits = record { fits = omega (arith, m .small, c .few) }
+
+    pub measuring-more : Measuring b at (total + (digits + 1)) (k + 1)
+    unfolding spans
+    measuring-more =
+        let h : k < length figures = omega (arith, length-figures b at) in
+        let e : getD figures k 0 ≡ figure = figure-is b at k l ∙ sym (f .is) in
+        let s : spans (drop k figures) ≡ length (decimal figure) + 1 + spans (drop (k + 1) figures) = rw (drop-cons figures k 0 h, e, add-one k) in
+        record { low = omega arith; rest = omega (arith, m .rest, c .count); small = omega (arith, m .small, c .few) }
+
+  pub measuring-all : figureCount ≤ k → Measured figures total
   unfolding spans
   measuring-all h =
-      let z : spans (drop k ns) ≡ 0 = ap spans (drop-of-length-le ns {i = k} (omega arith)) in
-      record { is = rw (length-line ns (omega arith)) (omega (arith, m .rest)); small = omega (arith, m .small, m .low) }
+      let n = length-figures b at in
+      let z : spans (drop k figures) ≡ 0 = ap spans (drop-of-length-le figures {i = k} (omega (arith, n))) in
+      record { is = rw (length-line figures (omega (arith, n))) (omega (arith, m .rest)); small = omega (arith, n, m .small, m .low) }
 
-pub ruleset measuring = (needs, measuring-none, measuring-more, measuring-all)
+pub ruleset measuring = (needs, measuring-none, measuring-fits, measuring-more, measuring-all)
 
-module _ {fs : List ℕ} {rest : ℕ} (m : Measured fs rest) (e : length fs ≡ figureCount) {b second : ℕ} (s : Counted b second) where
-  pub row-rest-fits : Fits w64 (second + 1 + rest)
-  row-rest-fits = record { fits = omega (arith, s .few, m .small) }
-
-  pub row-fits : {a first : ℕ} → Counted a first → Fits w64 (first + 1 + (second + 1 + rest))
-  row-fits f = record { fits = omega (arith, f .few, s .few, m .small) }
-
-  pub row-measured : {a first : ℕ} → Counted a first → Measured (a ∷ b ∷ fs) (first + 1 + (second + 1 + rest))
-  unfolding spans
-  row-measured {a} f =
-      record {
-        is = rw (length-line (a ∷ b ∷ fs) (omega arith)) (omega (arith, f .count, s .count, m .is, length-line fs (omega arith)));
-        small = omega (arith, f .few, s .few, m .small);
-      }
-
--- a row is three pairs
-row-parts : (a b : ℕ) (fs : List ℕ) → length fs ≡ figureCount
-    → textLine (a ∷ b ∷ fs) ≡ pair a b 32 ++ (pair (getD fs 0 0) (getD fs 1 0) 32 ++ pair (getD fs 2 0) (getD fs 3 0) 10)
-unfolding textLine pair field
-row-parts a b [] e = absurd (omega arith)
-row-parts a b (f ∷ []) e = absurd (omega arith)
-row-parts a b (f ∷ g ∷ []) e = absurd (omega arith)
-row-parts a b (f ∷ g ∷ h ∷ []) e = absurd (omega arith)
-row-parts a b (f ∷ g ∷ h ∷ i ∷ []) e = simp append-assoc
-row-parts a b (f ∷ g ∷ h ∷ i ∷ j ∷ fs) e = absurd (omega arith)
-
-module _ (a b : ℕ) (fs xs : List ℕ) (end : ℕ) (e : length fs ≡ figureCount) (h : Ends xs (textLine (a ∷ b ∷ fs)) end) where
-  abbrev front : List ℕ
-  front = pair a b 32
-
-  abbrev middle : List ℕ
-  middle = pair (getD fs 0 0) (getD fs 1 0) 32
-
-  abbrev back : List ℕ
-  back = pair (getD fs 2 0) (getD fs 3 0) 10
-
-  room-parts : length front + (length middle + length back) ≤ end
-  room-parts =
-      let l : length (front ++ (middle ++ back)) ≡ length front + (length middle + length back) = simp length-append in
-      omega (arith, h .short, ap length (row-parts a b fs e))
-
-  pub row-back-room : Ends xs back end
-  row-back-room = record { short = omega (arith, room-parts); within = h .within }
-
-  module _ {ys : List ℕ} {p : ℕ} (f : Put xs p back ys end) where
-    pub row-middle-room : Ends ys middle p
-    row-middle-room = record { short = omega (arith, room-parts, f .ends); within = omega (arith, h .within, f .ends, length-written (f .written)) }
-
-    module _ {zs : List ℕ} {q : ℕ} (s : Put ys q middle zs p) where
-      pub row-front-room : Ends zs front q
-      row-front-room =
-          record {
-            short = omega (arith, room-parts, f .ends, s .ends);
-            within = omega (arith, h .within, f .ends, s .ends, length-written (f .written), length-written (s .written));
-          }
-
-      pub row-put : {us : List ℕ} {r : ℕ} → Put zs r front us q → Put xs r (textLine (a ∷ b ∷ fs)) us end
-      row-put m = rw (row-parts a b fs e) (put-before (put-before f s) m)
-
-pub ruleset rowing = (needs, row-rest-fits, row-fits, row-measured, row-back-room, row-middle-room, row-front-room, row-put)
+-- two numbers before the figures
+row-measured : {fs : List ℕ} {rest a b first second : ℕ} → length fs ≡ figureCount → Measured fs rest → Counted a first → Counted b second
+    → Measured (a ∷ b ∷ fs) (first + second + 2 + rest)
+unfolding spans
+row-measured {fs} {a = a} {b = b} e m f s =
+    record {
+      is = rw (length-line (a ∷ b ∷ fs) (omega arith)) (omega (arith, f .count, s .count, m .is, length-line fs (omega arith)));
+      small = omega (arith, f .few, s .few, m .small);
+    }
 
 -- the numbers of a line as they are read
-pub head-read : (b : List ℕ) {ns : List ℕ} {year n : ℕ} → Readable b → Field 2 b 6 year → Field 2 b 8 n → ns ≡ year ∷ n ∷ figuresAt figureCount b 24 → ns ≡ headNumbers b
-unfolding headNumbers figuresAt
-head-read b r y n e = e ∙ rw (y .is, n .is, count-is b, totals-read b (formed b (r .right)))
+module _ {b : List ℕ} (r : Readable b) {year n : ℕ} (y : Field 2 b 6 year) (f : Field 2 b 8 n) where
+  pub head-read : headNumbers b ≡ year ∷ n ∷ figuresAt figureCount b 24
+  unfolding headNumbers figuresAt
+  head-read = rw (y .is, f .is, count-is b, totals-read b (formed b (r .right)))
 
-pub entry-read : (b : List ℕ) (i : ℕ) {ns : List ℕ} {number method : ℕ} → Readable b → i < entryCount b → Field 4 b (entriesAt + entryLength * i) number
-    → Field 1 b (entriesAt + entryLength * i + 4) method → ns ≡ number ∷ method ∷ figuresAt figureCount b (entriesAt + entryLength * i + 8)
-    → ns ≡ entryNumbers (entryIn (entryAt b i))
-unfolding entryNumbers entryIn figuresAt
-entry-read b i {number = number} {method = method} r l n m e =
-    let at = entriesAt + entryLength * i in
-    let p : number ≡ numberAt 4 (drop at b) 0 = n .is ∙ rw (numberAt-drop 4 b at 0, add-zero) in
-    let q : method ≡ numberAt 1 (drop at b) 4 = m .is ∙ sym (numberAt-drop 1 b at 4) in
-    e ∙ rw (p, q, figures-drop figureCount b at 8, figures-read (drop at b) (formed b (r .right) .entry i l .right))
+  module _ {first second rest : ℕ} (p : Counted year first) (q : Counted n second) (m : Measured (figuresAt figureCount b 24) rest) where
+    pub head-fits : Fits w64 (first + second + 2 + rest)
+    head-fits = record { fits = omega (arith, p .few, q .few, m .small, length-figures b 24) }
+
+    pub head-measured : Measured (headNumbers b) (first + second + 2 + rest)
+    head-measured = rw head-read (row-measured (length-figures b 24) m p q)
+
+module _ {b : List ℕ} {i : ℕ} (r : Readable b) (l : i < entryCount b) where
+  abbrev place : ℕ
+  place = entriesAt + entryLength * i
+
+  abbrev entry : Entry
+  entry = entryIn (entryAt b i)
+
+  pub method-read : {method : ℕ} → Field 1 b (place + 4) method → method ≡ entry .method
+  unfolding entryIn
+  method-read m = m .is ∙ sym (numberAt-drop 1 b place 4)
+
+  one-digit : Counted (entry .method) 1
+  one-digit = record { count = count-one (entry .method) (omega (arith, formed b (r .right) .entry i l .method .1)); few = omega arith }
+
+  module _ {number : ℕ} (f : Field 4 b place number) where
+    pub entry-read : entryNumbers entry ≡ number ∷ entry .method ∷ figuresAt figureCount b (place + 8)
+    unfolding entryNumbers entryIn figuresAt
+    entry-read =
+        let p : number ≡ numberAt 4 (drop place b) 0 = f .is ∙ rw (numberAt-drop 4 b place 0, add-zero) in
+        sym (rw (p, figures-drop figureCount b place 8, figures-read (drop place b) (formed b (r .right) .entry i l .right)))
+
+    module _ {first rest : ℕ} (p : Counted number first) (m : Measured (figuresAt figureCount b (place + 8)) rest) where
+      pub entry-fits : Fits w64 (first + 3 + rest)
+      entry-fits = record { fits = omega (arith, p .few, m .small, length-figures b (place + 8)) }
+
+      pub entry-measured : Measured (entryNumbers entry) (first + 3 + rest)
+      entry-measured =
+          let w = row-measured (length-figures b (place + 8)) m p one-digit in
+          rw entry-read (record { is = omega (arith, w .is); small = omega (arith, w .small) })
+
+pub ruleset rowing = (needs, head-fits, head-measured, entry-fits, entry-measured)
+
+-- the first line is longer than what putting digits may lose
+spans-long : (ns : List ℕ) → 2 * length ns ≤ spans ns
+unfolding spans
+spans-long [] = omega arith
+spans-long (n ∷ ns) = omega (arith, some-digit n, spans-long ns)
+
+pub line-long : (ns : List ℕ) → 0 < length ns → 2 * length ns ≤ length (textLine ns)
+line-long ns h = omega (arith, length-line ns h, spans-long ns)

@@ -22,13 +22,9 @@ use Rattle.texts.specs.Rows.{textOf}
 use Rattle.texts.specs.Saying.{said, answerLine, textOutput}
 use Rattle.texts.proofs.Lines.{fronted}
 
-pub front-is : {xs ys zs : List ℕ} {n : ℕ} → Written xs 0 ys zs → n ≡ length ys → take n zs ≡ ys
+front-is : {xs ys zs : List ℕ} {n : ℕ} → Written xs 0 ys zs → n ≡ length ys → take n zs ≡ ys
 unfolding splice
 front-is {xs} {ys} {zs} {n} w e = rw (w .is) (take-at ys (drop (0 + length ys) xs) n (sym e))
-
--- a line that is copied to the front
-pub line-fronted : {room line ys xs zs : List ℕ} {n : ℕ} → Fronted room ys line n → Written xs 0 (take n line) zs → Fronted xs ys zs n
-line-fronted f w = fronted (rw (front-is (f .written) (f .count)) at w) (f .count)
 
 room-passed : (tests : List Verdict) (made buffer : List ℕ) → firstRefusal (tests ++ (roomTest made buffer ∷ [])) ≡ Passes → length made ≤ length buffer
 room-passed tests made buffer e =
@@ -95,4 +91,4 @@ module _ (a : Answer) {xs zs : List ℕ} {n : ℕ} where
   pub refused-said : (a .number ≡ 0 → ⊥) → Fronted xs (refusedLine (a .number) (a .place)) zs n → Fronted xs (answerLine a) zs n
   refused-said e f = rw (said-refused a (acceptedLine (a .length)) e) f
 
-pub ruleset saying = (needs, line-fronted, text-made, text-refused, accepted-said, refused-said)
+pub ruleset saying = (needs, text-made, text-refused, accepted-said, refused-said)

@@ -1,38 +1,44 @@
 -- The whole text: its length, its lines one behind another, and the answer of the call. Assumes nothing.
 use mathlib.Core.Bool.{Bool, true, false}
-use mathlib.Core.List.{List, [], _∷_, _++_, map}
-use mathlib.Core.Path.{_≡_, refl, ap, _∙_}
+use mathlib.Core.List.{List, [], _∷_, _++_, map, append-assoc}
+use mathlib.Core.Path.{_≡_, refl, sym, ap, _∙_}
 use Prim.Native.Nat.{ℕ, zero, suc, _+_, _*_, _-_, _≤_, _<_}
-use native.Mathlib.Nat.{sub-zero}
+use native.Mathlib.Nat.{add-zero, sub-zero}
 use native.Mathlib.Numerals.{add-one}
 use native.Mathlib.Omega.{arith}
 use mir.Syntax.{w64}
 use mir.Val.{Fits}
 use borrow.Author.Needs.{needs}
-use lib.ListN.{length, length-append}
+use lib.ListN.{length, take, drop, length-append}
 use Rattle.basis.specs.declared.Verdict.the-variants.{Passes}
 use Rattle.basis.specs.Answers.{firstRefusal, Gives}
-use Rattle.basis.specs.Bytes.{Written}
+use Rattle.basis.specs.Bytes.{splice, Written}
 use Rattle.basis.specs.Lists.{countUp, joined}
-use Rattle.basis.proofs.Bytes.{length-written}
-use Rattle.meaning.specs.Report.{figureCount, entryCount, entryAt, entryIn, entriesOf, wellFormed}
+use Rattle.meaning.specs.Report.{figureCount, entriesAt, entryLength, entryCount, entryAt, entryIn, entriesOf, wellFormed}
 use Rattle.meaning.specs.Text.{textLine, reportText}
 use Rattle.meaning.specs.Calls.{formTest, text}
 use Rattle.meaning.proofs.Calls.{refused-gives, short-gives, made-gives}
 use Rattle.meaning.proofs.Reports.{length-masses, length-figures, length-totals}
 use Rattle.fields.specs.Fields.{Field}
+use Rattle.reports.specs.Figures.{figuresAt}
 use Rattle.reports.specs.Stated.{Readable}
-use Rattle.texts.specs.Digits.{Ends, Put}
+use Rattle.texts.specs.Digits.{field, pair, Ends, Put}
 use Rattle.texts.proofs.Digits.{put-none, put-before}
-use Rattle.texts.specs.Rows.{Measured, headNumbers, entryNumbers, entryLine, entryLines, textOf}
+use Rattle.texts.specs.Rows.{Measured, headNumbers, entryNumbers, headLine, entryLine, entryLines, textOf, Needed}
+use Rattle.texts.proofs.Lines.{second-room, first-room, own-end, own-written}
+use Rattle.texts.proofs.Rows.{head-read, entry-read, method-read, line-long}
+use Rattle.texts.proofs.Rows.{length-figures as figures-length}
 
 -- the lines of the entries from i on
 unfoldable pub linesFrom : List ℕ → ℕ → List ℕ
 linesFrom b i = joined (map (λ e. textLine (entryNumbers e)) (map (λ j. entryIn (entryAt b j)) (countUp i (entryCount b - i))))
 
-text-parts : (b : List ℕ) → textOf b ≡ textLine (headNumbers b) ++ entryLines b
-unfolding reportText headNumbers entryNumbers entryLines
+text-parts : (b : List ℕ) → textOf b ≡ headLine b ++ entryLines b
+unfolding reportText headLine headNumbers entryNumbers entryLines
 text-parts b = refl
+
+text-length : (b : List ℕ) → length (textOf b) ≡ length (headLine b) + length (entryLines b)
+text-length b = ap length (text-parts b) ∙ length-append (headLine b) (entryLines b)
 
 lines-all : (b : List ℕ) → linesFrom b 0 ≡ entryLines b
 unfolding linesFrom entryLines entriesOf
@@ -55,21 +61,26 @@ pub record Lengthening (b : List ℕ) (total i : ℕ) : Type 0 where
   pub low : i ≤ entryCount b
   pub rest : total + length (linesFrom b i) ≡ length (textOf b)
   pub small : total ≤ lineMost * (i + 1)
+  pub head : length (headLine b) ≤ lineMost
 
-pub lengthening-none : (b : List ℕ) {ns : List ℕ} {n : ℕ} → ns ≡ headNumbers b → Measured ns n → Lengthening b n 0
+length-head : (b : List ℕ) → length (headNumbers b) ≡ 2 + figureCount
 unfolding headNumbers
-lengthening-none b {ns} {n} e m =
-    let l : length ns ≡ 2 + figureCount = ap length e ∙ ap (λ (k : ℕ). suc (suc k)) (length-totals (entriesOf b)) in
-    let t : length (textOf b) ≡ length (textLine ns) + length (linesFrom b 0) = rw (e, lines-all b) (ap length (text-parts b) ∙ length-append (textLine (headNumbers b)) (entryLines b)) in
-    record { low = omega arith; rest = omega (arith, m .is); small = omega (arith, m .small) }
+length-head b = ap (λ (k : ℕ). suc (suc k)) (length-totals (entriesOf b))
+
+length-entry : (b : List ℕ) (i : ℕ) → length (entryNumbers (entryIn (entryAt b i))) ≡ 2 + figureCount
+unfolding entryNumbers
+length-entry b i = ap (λ (k : ℕ). suc (suc k)) (length-figures (entryIn (entryAt b i)) (length-masses (entryAt b i)))
+
+pub lengthening-none : (b : List ℕ) {n : ℕ} → Measured (headNumbers b) n → Lengthening b n 0
+unfolding headLine
+lengthening-none b {n} m =
+    let t : length (textOf b) ≡ length (headLine b) + length (linesFrom b 0) = rw (lines-all b) (text-length b) in
+    record { low = omega arith; rest = omega (arith, m .is); small = omega (arith, length-head b, m .small); head = omega (arith, length-head b, m .is, m .small) }
 
 module _ {b : List ℕ} {total i : ℕ} (t : Lengthening b total i) {n : ℕ} (f : Field 2 b 8 n) where
-  module _ (l : i < n) (r : Readable b) {ns : List ℕ} {k : ℕ} (e : ns ≡ entryNumbers (entryIn (entryAt b i))) (m : Measured ns k) where
+  module _ (l : i < n) (r : Readable b) {k : ℕ} (m : Measured (entryNumbers (entryIn (entryAt b i))) k) where
     line-small : k ≤ lineMost
-    unfolding entryNumbers
-    line-small =
-        let c : length ns ≡ 2 + figureCount = ap length e ∙ ap (λ (k : ℕ). suc (suc k)) (length-figures (entryIn (entryAt b i)) (length-masses (entryAt b i))) in
-        omega (arith, m .small)
+    line-small = omega (arith, length-entry b i, m .small)
 
     pub lengthening-fits : Fits w64 (total + k)
     lengthening-fits = record { fits = omega (arith, line-small, t .small, f .is, r .few) }
@@ -79,11 +90,10 @@ module _ {b : List ℕ} {total i : ℕ} (t : Lengthening b total i) {n : ℕ} (f
     lengthening-more =
         let s : length (linesFrom b i) ≡ length (entryLine b i) + length (linesFrom b (i + 1)) =
         ap length (lines-next b i (omega (arith, f .is))) ∙ length-append (entryLine b i) (linesFrom b (i + 1)) in
-        let q : k ≡ length (entryLine b i) = m .is ∙ ap (λ (x : List ℕ). length (textLine x)) e in
-        record { low = omega (arith, f .is); rest = omega (arith, t .rest); small = omega (arith, line-small, t .small) }
+        record { low = omega (arith, f .is); rest = omega (arith, t .rest, m .is); small = omega (arith, line-small, t .small); head = t .head }
 
-  pub lengthening-all : n ≤ i → total ≡ length (textOf b)
-  lengthening-all l = omega (arith, t .rest, ap length (lines-none b i (omega (arith, f .is))))
+  pub lengthening-all : n ≤ i → Needed b total
+  lengthening-all l = record { is = omega (arith, t .rest, ap length (lines-none b i (omega (arith, f .is)))); head = t .head }
 
 pub ruleset lengthening = (needs, lengthening-none, lengthening-fits, lengthening-more, lengthening-all)
 
@@ -97,7 +107,7 @@ from-within b (suc i) l =
 -- the lines from entry i on are written
 pub record Texting (b buf₀ : List ℕ) (end : ℕ) (buf : List ℕ) (p i : ℕ) : Type 0 where
   pub low : i ≤ entryCount b
-  pub room : length (entryLines b) ≤ end
+  pub room : 7 + length (entryLines b) ≤ end
   pub put : Put buf₀ p (linesFrom b i) buf end
 
 pub texting-none : (b buf : List ℕ) (end : ℕ) {n : ℕ} → Field 2 b 8 n → Readable b × Ends buf (entryLines b) end → Texting b buf end buf end n
@@ -106,7 +116,7 @@ texting-none b buf end {n} f h =
 
 module _ {b buf₀ : List ℕ} {end : ℕ} {buf : List ℕ} {p i : ℕ} (t : Texting b buf₀ end buf p i) where
   pub texting-kept : length buf ≡ length buf₀
-  texting-kept = length-written (t .put .written)
+  texting-kept = t .put .same
 
   module _ (l : 0 < i) where
     before : linesFrom b (i - 1) ≡ entryLine b (i - 1) ++ linesFrom b i
@@ -121,7 +131,7 @@ module _ {b buf₀ : List ℕ} {end : ℕ} {buf : List ℕ} {p i : ℕ} (t : Tex
           short =
               omega
               (arith, t .room, t .put .ends, ap length before, length-append (entryLine b (i - 1)) (linesFrom b i), from-within b (i - 1) (omega (arith, t .low)));
-          within = omega (arith, t .put .written .fits, texting-kept);
+          within = omega (arith, t .put .within, t .put .ends, texting-kept);
         }
 
     pub texting-more : {cs : List ℕ} {q : ℕ} → Put buf q (entryLine b (i - 1)) cs p → Texting b buf₀ end cs q (i - 1)
@@ -132,35 +142,110 @@ module _ {b buf₀ : List ℕ} {end : ℕ} {buf : List ℕ} {p i : ℕ} (t : Tex
 
 pub ruleset texting = (needs, texting-none, texting-kept, texting-entry, texting-room, texting-more, texting-all)
 
--- the line of an entry, by its numbers
-pub line-room : (b : List ℕ) (i end : ℕ) (buf : List ℕ) {ns : List ℕ}
-    → Readable b × (i < entryCount b) × Ends buf (entryLine b i) end → ns ≡ entryNumbers (entryIn (entryAt b i)) → Ends buf (textLine ns) end
-unfolding entryLine
-line-room b i end buf h e = rw e (h .2)
+-- the figures of a line, and the two numbers before them
+figures-are : {b : List ℕ} {at co2 ch4 n2o equivalent : ℕ} → Field 8 b at co2 → Field 8 b (at + 8) ch4 → Field 8 b (at + 16) n2o → Field 8 b (at + 24) equivalent
+    → figuresAt figureCount b at ≡ co2 ∷ ch4 ∷ n2o ∷ equivalent ∷ []
+unfolding figuresAt countUp
+figures-are {at = at} c h n e = rw (c .is, h .is, n .is, e .is, add-zero at)
 
-pub line-put : (b : List ℕ) (i : ℕ) {ns buf cs : List ℕ} {at q : ℕ} → ns ≡ entryNumbers (entryIn (entryAt b i)) → Put buf at (textLine ns) cs q
-    → Put buf at (entryLine b i) cs q
-unfolding entryLine
-line-put b i e w = rw (← e) w
+module _ {b : List ℕ} {at co2 ch4 n2o equivalent : ℕ} (c : Field 8 b at co2) (h : Field 8 b (at + 8) ch4) (n : Field 8 b (at + 16) n2o) (e : Field 8 b (at + 24) equivalent) where
+  figures-parts : textLine (figuresAt figureCount b at) ≡ pair co2 ch4 32 ++ pair n2o equivalent 10
+  unfolding textLine pair field
+  figures-parts = rw (figures-are c h n e) (simp append-assoc)
+
+  module _ {xs : List ℕ} {end : ℕ} (r : (at + 8 * figureCount ≤ length b) × Ends xs (textLine (figuresAt figureCount b at)) end) where
+    pub figures-second : Ends xs (pair n2o equivalent 10) end
+    figures-second = second-room (pair co2 ch4 32) (pair n2o equivalent 10) (rw figures-parts at (r .1))
+
+    module _ {ys : List ℕ} {p : ℕ} (w : Put xs p (pair n2o equivalent 10) ys end) where
+      pub figures-first : Ends ys (pair co2 ch4 32) p
+      figures-first = first-room (pair co2 ch4 32) (pair n2o equivalent 10) (rw figures-parts at (r .1)) w
+
+      pub figures-put : {zs : List ℕ} {q : ℕ} → Put ys q (pair co2 ch4 32) zs p → Put xs q (textLine (figuresAt figureCount b at)) zs end
+      figures-put v = rw figures-parts (put-before w v)
+
+pub ruleset figuring = (needs, figures-second, figures-first, figures-put)
+
+line-parts : (a b : ℕ) (fs : List ℕ) → 0 < length fs → textLine (a ∷ b ∷ fs) ≡ pair a b 32 ++ textLine fs
+unfolding textLine pair field
+line-parts a b [] h = absurd (omega arith)
+line-parts a b (f ∷ fs) h = simp append-assoc
+
+-- the line of an entry
+module _ {b : List ℕ} {i number method : ℕ} (f : Field 4 b (entriesAt + entryLength * i) number) (m : Field 1 b (entriesAt + entryLength * i + 4) method)
+    {xs : List ℕ} {end : ℕ} (h : Readable b × (i < entryCount b) × Ends xs (entryLine b i) end) where
+  abbrev entryFigures : List ℕ
+  entryFigures = textLine (figuresAt figureCount b (entriesAt + entryLength * i + 8))
+
+  entry-parts : entryLine b i ≡ pair number method 32 ++ entryFigures
+  unfolding entryLine
+  entry-parts =
+      rw (entry-read (h .0) (h .1) f, ← method-read (h .0) (h .1) m)
+      (line-parts number method (figuresAt figureCount b (entriesAt + entryLength * i + 8)) (omega (arith, figures-length b (entriesAt + entryLength * i + 8))))
+
+  pub entry-figures : Ends xs entryFigures end
+  entry-figures = second-room (pair number method 32) entryFigures (rw entry-parts at (h .2))
+
+  module _ {ys : List ℕ} {p : ℕ} (w : Put xs p entryFigures ys end) where
+    pub entry-pair : Ends ys (pair number method 32) p
+    entry-pair = first-room (pair number method 32) entryFigures (rw entry-parts at (h .2)) w
+
+    pub entry-put : {zs : List ℕ} {q : ℕ} → Put ys q (pair number method 32) zs p → Put xs q (entryLine b i) zs end
+    entry-put v = rw entry-parts (put-before w v)
+
+-- the first line, in a room of its own
+module _ {b : List ℕ} {year n : ℕ} (y : Field 2 b 6 year) (f : Field 2 b 8 n) (h : Readable b × (length (headLine b) ≤ 126))
+    (xs : List ℕ) (e : length xs ≡ 133) where
+  abbrev headFigures : List ℕ
+  headFigures = textLine (figuresAt figureCount b 24)
+
+  head-parts : headLine b ≡ pair year n 32 ++ headFigures
+  unfolding headLine
+  head-parts = rw (head-read (h .0) y f) (line-parts year n (figuresAt figureCount b 24) (omega (arith, figures-length b 24)))
+
+  head-ends : Ends xs (pair year n 32 ++ headFigures) 133
+  head-ends = record { short = omega (arith, h .1, ap length head-parts); within = omega arith }
+
+  pub head-figures : Ends xs headFigures 133
+  head-figures = second-room (pair year n 32) headFigures head-ends
+
+  module _ {ys : List ℕ} {p : ℕ} (w : Put xs p headFigures ys 133) where
+    pub head-pair : Ends ys (pair year n 32) p
+    head-pair = first-room (pair year n 32) headFigures head-ends w
+
+    pub head-put : {zs : List ℕ} {q : ℕ} → Put ys q (pair year n 32) zs p → Put xs q (headLine b) zs 133
+    head-put v = rw head-parts (put-before w v)
+
+pub ruleset lining = (needs, entry-figures, entry-pair, entry-put, head-figures, head-pair, head-put)
 
 -- the lines of the entries, and the first line before them
-module _ (b buf : List ℕ) (end : ℕ) (h : Readable b × (end ≡ length (textOf b)) × (end ≤ length buf)) where
-  text-length : length (textOf b) ≡ length (textLine (headNumbers b)) + length (entryLines b)
-  text-length = ap length (text-parts b) ∙ length-append (textLine (headNumbers b)) (entryLines b)
+module _ (b buf : List ℕ) (end : ℕ) (h : Readable b × Needed b end × (end ≤ length buf)) where
+  head-long : 7 ≤ length (headLine b)
+  unfolding headLine
+  head-long = omega (arith, line-long (headNumbers b) (omega (arith, length-head b)), length-head b)
 
   pub lines-room : Ends buf (entryLines b) end
-  lines-room = record { short = omega (arith, h .1, text-length); within = h .2 }
+  lines-room = record { short = omega (arith, h .1 .is, text-length b, head-long); within = h .2 }
 
-  module _ {cs ns : List ℕ} {at : ℕ} (w : Put buf at (entryLines b) cs end) (e : ns ≡ headNumbers b) where
-    pub head-room : Ends cs (textLine ns) at
-    head-room = record { short = rw e (omega (arith, h .1, text-length, w .ends)); within = omega (arith, w .written .fits, length-written (w .written)) }
+  module _ {cs : List ℕ} {at : ℕ} (w : Put buf at (entryLines b) cs end) where
+    text-written : {ds : List ℕ} → Written cs 0 (headLine b) ds → Written buf 0 (textOf b) ds
+    unfolding splice
+    text-written {ds} v =
+        let z : 0 + length (headLine b) ≡ at = omega (arith, h .1 .is, text-length b, w .ends) in
+        let e : 0 + length (textOf b) ≡ end = omega (arith, h .1 .is) in
+        record {
+          fits = omega (arith, h .1 .is, h .2);
+          is = v .is ∙ rw (z, e, w .is, text-parts b) (sym (append-assoc (headLine b) (entryLines b) (drop end buf)));
+        }
 
-    pub text-written : {ds : List ℕ} {r : ℕ} → Put cs r (textLine ns) ds at → Written buf 0 (textOf b) ds
-    text-written {ds} {r} v =
-        let v′ : Put cs r (textLine (headNumbers b)) ds at = rw e at v in
-        let z : r ≡ 0 = omega (arith, h .1, text-length, w .ends, v′ .ends) in
-        let t : Written buf r (textOf b) ds = rw (text-parts b) (put-before w v′ .written) in
-        rw z at t
+    module _ {room line : List ℕ} {from : ℕ} (l : Put room from (headLine b) line 133) where
+      pub text-fits : 0 + length (take (133 - from) (drop from line)) ≤ length cs
+      text-fits = rw (own-end l) (omega (arith, h .1 .is, h .2, text-length b, w .same))
+
+      pub text-copied : {ds : List ℕ} → Written cs 0 (take (133 - from) (drop from line)) ds → Written buf 0 (textOf b) ds
+      text-copied v = text-written (own-written l v)
+
+pub ruleset texted = (needs, lines-room, text-fits, text-copied)
 
 module _ (b : List ℕ) {right : Bool} (e : right ≡ wellFormed b) where
   module _ (t : right ≡ true) where

@@ -2,7 +2,7 @@
 use mathlib.Core.List.{List, [], _∷_, _++_}
 use mathlib.Core.Path.{_≡_}
 use Prim.Native.Nat.{ℕ, _+_, _≤_}
-use lib.ListN.{length, take}
+use lib.ListN.{length, take, drop}
 use Rattle.basis.specs.Bytes.{ascii, Written}
 use Rattle.meaning.specs.Text.{decimal}
 
@@ -23,13 +23,20 @@ pair one other after = field one 32 ++ field other after
 unfoldable pub acceptedLine : ℕ → List ℕ
 acceptedLine n = ascii "accepted " ++ field n 10
 
--- ys has room in xs up to a place
+-- ys has room in xs up to a place, with seven bytes before it
 pub record Ends (xs ys : List ℕ) (end : ℕ) : Type 0 where
-  pub short : length ys ≤ end
+  pub short : 7 + length ys ≤ end
   pub within : end ≤ length xs
 
--- ys is written over xs at a place, and ends where the next begins
+-- ys stands up to a place, and behind it what stood there; what stands before it is left open
 pub record Put (xs : List ℕ) (at : ℕ) (ys zs : List ℕ) (end : ℕ) : Type 0 where
+  pub within : end ≤ length xs
+  pub same : length zs ≡ length xs
+  pub ends : end ≡ at + length ys
+  pub is : drop at zs ≡ ys ++ drop end xs
+
+-- ys is written over xs at a place, and ends where the next begins
+pub record Placed (xs : List ℕ) (at : ℕ) (ys zs : List ℕ) (end : ℕ) : Type 0 where
   pub written : Written xs at ys zs
   pub ends : end ≡ at + length ys
 

@@ -1,4 +1,4 @@
--- The numbers of the lines of a report's text, and how long a line is. Assumes nothing.
+-- The numbers of the lines of a report's text, and how long lines are. Assumes nothing.
 use mathlib.Core.List.{List, _∷_, map}
 use mathlib.Core.Path.{_≡_}
 use Prim.Native.Nat.{ℕ, _*_, _≤_}
@@ -6,10 +6,6 @@ use lib.ListN.{length}
 use Rattle.basis.specs.Lists.{joined}
 use Rattle.meaning.specs.Report.{Entry, figures, totals, reportYear, entryAt, entryIn, entriesOf}
 use Rattle.meaning.specs.Text.{textLine, reportText}
-use Rattle.texts.specs.declared.Row.{Row}
-
-abbrev pub numbersOf : Row → List ℕ
-numbersOf r = r .first ∷ r .second ∷ r .figures
 
 -- "year, count and the four totals"
 unfoldable pub headNumbers : List ℕ → List ℕ
@@ -24,6 +20,10 @@ pub record Measured (ns : List ℕ) (n : ℕ) : Type 0 where
   pub is : n ≡ length (textLine ns)
   pub small : n ≤ 21 * length ns
 
+-- the first line
+unfoldable pub headLine : List ℕ → List ℕ
+headLine b = textLine (headNumbers b)
+
 -- the line of entry i
 unfoldable pub entryLine : List ℕ → ℕ → List ℕ
 entryLine b i = textLine (entryNumbers (entryIn (entryAt b i)))
@@ -35,3 +35,8 @@ entryLines b = joined (map (λ e. textLine (entryNumbers e)) (entriesOf b))
 -- the text of a report
 abbrev pub textOf : List ℕ → List ℕ
 textOf b = reportText (reportYear b) (entriesOf b)
+
+-- the text of a report is n bytes long, and of its first line each number has at most twenty digits
+pub record Needed (b : List ℕ) (n : ℕ) : Type 0 where
+  pub is : n ≡ length (textOf b)
+  pub head : length (headLine b) ≤ 126

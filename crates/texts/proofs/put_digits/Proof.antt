@@ -14,16 +14,23 @@ put-digits-spec =
     (tie.spec
     Inv-loop
     μ-loop
-    (λ c. search spelling)
-    (λ c. search spelling)
-    (λ c. search spelling)
-    (λ c. search spelling)
-    (λ c. search spelling)
-    (λ c. search spelling)
-    (λ c. search spelling)
-    (λ c. search spelling)
-    (λ c. search spelling)
-    (λ c. search spelling)
-    (λ c. search spelling)
-    (λ c. search spelling)
-    (λ c. search spelling))
+    (λ c. search spelling)  -- add-buf
+    (λ c. search spelling)  -- cast-buf
+    (λ c. search spelling)  -- sub-buf
+    (λ c. search spelling)  -- slice-write-buf
+    (λ c. search spelling)  -- sub-result
+    (λ c. search spelling)  -- same-length
+    (λ c. search spelling)  -- returns
+    (λ c. search spelling)  -- loop-holds
+    (λ c. search spelling)  -- sub-p
+    (λ c κs. search spelling)  -- eight-digits-requires
+    (λ c κs. search spelling)  -- put-u64-requires
+    (λ c. search spelling)  -- loop-less
+    (λ c. search spelling)  -- loop-again
+    (λ c. search spelling)  -- sub-put-u64
+    (λ c κs. search spelling)  -- eight-digits-requires-2
+    (λ c κs. search spelling)  -- put-u64-requires-2
+    (λ c κs. search spelling)  -- digit-count-requires
+    (λ c. search spelling)  -- sub-result-2
+    (λ c. search spelling)  -- same-length-2
+    (λ c. search spelling))  -- returns-2

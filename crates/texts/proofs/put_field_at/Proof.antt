@@ -1,5 +1,5 @@
 use borrow.Author.Needs.{needs}
-use Rattle.texts.proofs.Lines.{ending}
+use Rattle.texts.proofs.Lines.{own}
 use Rattle.texts.proofs.put_field_at.Statement.{statement}
 use Rattle.texts.proofs.put_field_at.Tie as tie
 
@@ -10,6 +10,9 @@ put-field-at-spec =
     (search needs)
     (search needs)
     (search needs)
-    (λ c κs. search ending)
     (search needs)
-    (λ c. search ending))
+    (λ c κs. search own)
+    (search needs)
+    (search needs)
+    (search needs)
+    (λ c. search own))

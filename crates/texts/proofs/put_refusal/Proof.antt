@@ -1,5 +1,5 @@
 use borrow.Author.Needs.{needs}
-use Rattle.texts.proofs.Saying.{saying}
+use Rattle.texts.proofs.Lines.{refusing}
 use Rattle.texts.proofs.put_refusal.Statement.{statement}
 use Rattle.texts.proofs.put_refusal.Tie as tie
 
@@ -9,7 +9,7 @@ put-refusal-spec =
     (tie.spec
     (search needs)
     (search needs)
+    (λ c κs. search refusing)
+    (λ c κs. search refusing)
     (search needs)
-    (search needs)
-    (search needs)
-    (λ c. search saying))
+    (λ c. search refusing))

@@ -17,9 +17,7 @@ text-length-spec =
     μ-loop
     (λ c κs. search lengthening)
     (λ c κs. search lengthening)
-    (λ c κs. search lengthening)
     (λ c. search lengthening)
-    (λ c κs. search lengthening)
     (λ c κs. search lengthening)
     (λ c. search lengthening)
     (λ c. search lengthening)
