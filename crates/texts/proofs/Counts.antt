@@ -70,6 +70,9 @@ not-below : (bound k : ℕ) → NoneBelow bound k → bound ≤ k
 not-below zero k h = omega arith
 not-below (suc bound) k (h, f) = omega (arith, not-below bound k h, f)
 
+pub power-at : {k j : ℕ} → k ≡ j → getD powers j 0 ≡ getD powers k 0
+power-at e = ap (λ (n : ℕ). getD powers n 0) (sym e)
+
 pub last-power : (k : ℕ) → NoneBelow 19 k → k < 20 → 10000000000000000000 ≡ getD powers k 0
 last-power k h l = let e : k ≡ 19 = omega (arith, not-below 19 k h) in rw e
 

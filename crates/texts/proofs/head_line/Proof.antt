@@ -1,5 +1,5 @@
 use borrow.Author.Needs.{needs}
-use Rattle.texts.proofs.Texts.{lining}
+use Rattle.texts.proofs.Texts.{head-figures, head-pair, head-put}
 use Rattle.texts.proofs.head_line.Statement.{statement}
 use Rattle.texts.proofs.head_line.Tie as tie
 
@@ -9,6 +9,6 @@ head-line-spec =
     (tie.spec
     (search needs)
     (search needs)
-    (λ c κs. (search needs, search lining))
-    (λ c κs. search lining)
-    (λ c. search lining))
+    (λ c κs. (search needs, search (needs, head-figures)))
+    (λ c κs. search (needs, head-pair))
+    (λ c. search (needs, head-put)))

@@ -1,4 +1,6 @@
-use Rattle.texts.proofs.Digits.{Spelling, spelling}
+use native.Mathlib.Omega.{arith}
+use borrow.Author.Needs.{needs}
+use Rattle.texts.proofs.Digits.{Spelling, digit-put, spelling-none, spelling-kept, spelling-some, spelling-at, spelling-same, spelling-more, spelling-all, spelling-within}
 use Rattle.texts.proofs.put_digits.Statement.{statement}
 use Rattle.texts.proofs.put_digits.Tie as tie
 
@@ -14,23 +16,23 @@ put-digits-spec =
     (tie.spec
     Inv-loop
     μ-loop
-    (λ c. search spelling)  -- add-buf
-    (λ c. search spelling)  -- cast-buf
-    (λ c. search spelling)  -- sub-buf
-    (λ c. search spelling)  -- slice-write-buf
-    (λ c. search spelling)  -- sub-result
-    (λ c. search spelling)  -- same-length
-    (λ c. search spelling)  -- returns
-    (λ c. search spelling)  -- loop-holds
-    (λ c. search spelling)  -- sub-p
-    (λ c κs. search spelling)  -- eight-digits-requires
-    (λ c κs. search spelling)  -- put-u64-requires
-    (λ c. search spelling)  -- loop-less
-    (λ c. search spelling)  -- loop-again
-    (λ c. search spelling)  -- sub-put-u64
-    (λ c κs. search spelling)  -- eight-digits-requires-2
-    (λ c κs. search spelling)  -- put-u64-requires-2
-    (λ c κs. search spelling)  -- digit-count-requires
-    (λ c. search spelling)  -- sub-result-2
-    (λ c. search spelling)  -- same-length-2
-    (λ c. search spelling))  -- returns-2
+    (omega arith)
+    (omega arith)
+    (omega arith)
+    (omega arith)
+    (omega arith)
+    (λ c. search needs)
+    (λ c. search (needs, digit-put))
+    (λ c. search (needs, spelling-none))
+    (λ c. search (needs, spelling-some))
+    (λ c κs. omega arith)
+    (λ c κs. search (needs, spelling-at))
+    (omega arith)
+    (λ c. search (needs, spelling-more))
+    (λ c. search (needs, spelling-some))
+    (λ c κs. omega arith)
+    (λ c κs. search (needs, spelling-at))
+    (λ c κs. search needs)
+    (λ c. search (needs, spelling-within))
+    (λ c. search (needs, spelling-same))
+    (λ c. search (needs, spelling-all)))

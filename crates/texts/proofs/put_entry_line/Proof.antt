@@ -1,5 +1,5 @@
 use borrow.Author.Needs.{needs}
-use Rattle.texts.proofs.Texts.{lining}
+use Rattle.texts.proofs.Texts.{entry-figures, entry-pair, entry-put}
 use Rattle.texts.proofs.put_entry_line.Statement.{statement}
 use Rattle.texts.proofs.put_entry_line.Tie as tie
 
@@ -13,7 +13,7 @@ put-entry-line-spec =
     (search needs)
     (search needs)
     (search needs)
-    (λ c κs. (search needs, search lining))
-    (λ c κs. search lining)
+    (λ c κs. (search needs, search (needs, entry-figures)))
+    (λ c κs. search (needs, entry-pair))
     (search needs)
-    (λ c. search lining))
+    (λ c. search (needs, entry-put)))

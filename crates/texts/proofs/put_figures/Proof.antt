@@ -1,5 +1,6 @@
+use native.Mathlib.Omega.{arith}
 use borrow.Author.Needs.{needs}
-use Rattle.texts.proofs.Texts.{figuring}
+use Rattle.texts.proofs.Texts.{figures-second, figures-first, figures-put}
 use Rattle.texts.proofs.put_figures.Statement.{statement}
 use Rattle.texts.proofs.put_figures.Tie as tie
 
@@ -14,7 +15,7 @@ put-figures-spec =
     (search needs)
     (search needs)
     (search needs)
-    (λ c κs. search figuring)
-    (λ c κs. search figuring)
+    (λ c κs. search (needs, figures-second))
+    (λ c κs. search (needs, figures-first))
     (search needs)
-    (λ c. search figuring))
+    (λ c. search (needs, figures-put)))
