@@ -22,7 +22,7 @@ use Rattle.texts.specs.Rows.{textOf}
 use Rattle.texts.specs.Saying.{said, answerLine, textOutput}
 use Rattle.texts.proofs.Lines.{fronted}
 
-front-is : {xs ys zs : List ℕ} {n : ℕ} → Written xs 0 ys zs → n ≡ length ys → take n zs ≡ ys
+pub front-is : {xs ys zs : List ℕ} {n : ℕ} → Written xs 0 ys zs → n ≡ length ys → take n zs ≡ ys
 unfolding splice
 front-is {xs} {ys} {zs} {n} w e = rw (w .is) (take-at ys (drop (0 + length ys) xs) n (sym e))
 
