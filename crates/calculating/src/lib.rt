@@ -17,7 +17,7 @@ use basis::Verdict;
 use sources::judge_sources;
 
 // So few sources, and so many as a plant mostly has, do not pay for clearing the room of 512.
-const FEW: usize = 16;
+const FEW: usize = 8;
 
 const SOME: usize = 128;
 
@@ -75,11 +75,11 @@ fn calculate_in(register: &[u8], keys: &mut [u64], kept: &mut [u64], report: &mu
 }
 
 fn calculate_few(register: &[u8], report: &mut [u8]) -> Answer
-    requires { ⌜ keysFor (now register) ≤ 16 ⌝ }
+    requires { ⌜ keysFor (now register) ≤ 8 ⌝ }
     ensures { λ r. ⌜ Gives (calculated (now (register .entry)) (now (report .entry))) r (now (report .exit)) ⌝ }
 {
     let mut keys = [0u64; FEW];
-    let mut kept = [0u64; 64];
+    let mut kept = [0u64; 32];
     calculate_in(register, &mut keys, &mut kept, report)
 }
 
