@@ -34,7 +34,7 @@ some-digit n = by (decLt n 10)
     by (yes l) = omega (arith, count-one n l)
     by (no l) = omega (arith, count-next n (omega arith))
 
-decimal-many : (k n : ℕ) → 10 ^ k ≤ n → k + 1 ≤ length (decimal n)
+pub decimal-many : (k n : ℕ) → 10 ^ k ≤ n → k + 1 ≤ length (decimal n)
 decimal-many zero n l = omega (arith, some-digit n)
 decimal-many (suc k) n l =
     let t : 10 ^ k * 10 ≤ n = rw (pow-suc 10 k) at l in

@@ -5,7 +5,6 @@ use Prim.Native.Nat.{ℕ, zero, suc, _+_, _-_, _/_, _%_, _≤_, _<_}
 use native.Mathlib.Decide.{decLt}
 use native.Mathlib.Numerals.{add-one}
 use native.Mathlib.Omega.{arith}
-use borrow.Author.Needs.{needs}
 use lib.ListN.{length, take, drop, set, length-append}
 use lib.Seq.{set-split, drop-at, drop-drop, length-take-le}
 use Rattle.basis.specs.Bytes.{Bytes, bytesOf, numberOf, splice, Written}
@@ -185,6 +184,3 @@ module _ {b₀ : List ℕ} {end n : ℕ} {b : List ℕ} {p rest : ℕ} (s : Spel
 
   pub spelling-within : {k : ℕ} → Counted n k → k ≤ end
   spelling-within d = omega (arith, d .count, s .room)
-
-pub ruleset spelling =
-    (needs, digit-some, digit-at, digit-put, spelling-none, spelling-kept, spelling-some, spelling-at, spelling-same, spelling-more, spelling-all, spelling-within)

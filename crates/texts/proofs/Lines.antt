@@ -71,10 +71,10 @@ own-room n after xs f e = record { short = omega (arith, length-field n after, t
 
 -- what stands up to the end of a room, and is copied
 module _ {room ys line : List ℕ} {from end : ℕ} (w : Put room from ys line end) where
-  pub own-end : take (end - from) (drop from line) ≡ ys
+  own-end : take (end - from) (drop from line) ≡ ys
   own-end = rw (w .is) (take-at ys (drop end room) (end - from) (omega (arith, w .ends)))
 
-  pub own-written : {xs zs : List ℕ} {at : ℕ} → Written xs at (take (end - from) (drop from line)) zs → Written xs at ys zs
+  own-written : {xs zs : List ℕ} {at : ℕ} → Written xs at (take (end - from) (drop from line)) zs → Written xs at ys zs
   own-written v = rw own-end at v
 
   pub own-placed : {xs zs : List ℕ} {at : ℕ} → Written xs at (take (end - from) (drop from line)) zs → Placed xs at ys zs (at + (end - from))

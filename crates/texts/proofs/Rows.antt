@@ -13,7 +13,7 @@ use lib.Seq.{drop-cons}
 use Rattle.basis.specs.Bytes.{numberAt}
 use Rattle.basis.proofs.Counting.{length-counted, at-counted}
 use Rattle.basis.proofs.Rows.{numberAt-drop}
-use Rattle.meaning.specs.Report.{Entry, figureCount, entriesAt, entryLength, entryCount, entryAt, entryIn}
+use Rattle.meaning.specs.Report.{Entry, figureCount, entriesAt, entryLength, entryCount, entryAt, entryIn, entriesOf, totals}
 use Rattle.meaning.specs.Text.{decimal, textLine}
 use Rattle.meaning.proofs.Reports.{formed, count-is, figures-read, totals-read}
 use Rattle.fields.specs.Fields.{Field}
@@ -22,7 +22,7 @@ use Rattle.reports.specs.Stated.{Readable}
 use Rattle.reports.proofs.Entries.{figures-drop}
 use Rattle.texts.specs.Digits.{Counted}
 use Rattle.texts.specs.Rows.{Measured, headNumbers, entryNumbers}
-use Rattle.texts.proofs.Counts.{count-one, some-digit}
+use Rattle.texts.proofs.Counts.{count-one}
 
 -- the bytes of fields, each with the byte behind it
 unfoldable pub spans : List ℕ → ℕ
@@ -88,10 +88,14 @@ row-measured {fs} {a = a} {b = b} e m f s =
     }
 
 -- the numbers of a line as they are read
+pub totals-are : {b : List ℕ} → Readable b → totals (entriesOf b) ≡ figuresAt figureCount b 24
+unfolding figuresAt
+totals-are {b} r = totals-read b (formed b (r .right))
+
 module _ {b : List ℕ} (r : Readable b) {year n : ℕ} (y : Field 2 b 6 year) (f : Field 2 b 8 n) where
-  pub head-read : headNumbers b ≡ year ∷ n ∷ figuresAt figureCount b 24
-  unfolding headNumbers figuresAt
-  head-read = rw (y .is, f .is, count-is b, totals-read b (formed b (r .right)))
+  head-read : headNumbers b ≡ year ∷ n ∷ figuresAt figureCount b 24
+  unfolding headNumbers
+  head-read = rw (y .is, f .is, count-is b, totals-are r)
 
   module _ {first second rest : ℕ} (p : Counted year first) (q : Counted n second) (m : Measured (figuresAt figureCount b 24) rest) where
     pub head-fits : Fits w64 (first + second + 2 + rest)
@@ -131,12 +135,3 @@ module _ {b : List ℕ} {i : ℕ} (r : Readable b) (l : i < entryCount b) where
           rw entry-read (record { is = omega (arith, w .is); small = omega (arith, w .small) })
 
 pub ruleset rowing = (needs, head-fits, head-measured, entry-fits, entry-measured)
-
--- the first line is longer than what putting digits may lose
-spans-long : (ns : List ℕ) → 2 * length ns ≤ spans ns
-unfolding spans
-spans-long [] = omega arith
-spans-long (n ∷ ns) = omega (arith, some-digit n, spans-long ns)
-
-pub line-long : (ns : List ℕ) → 0 < length ns → 2 * length ns ≤ length (textLine ns)
-line-long ns h = omega (arith, length-line ns h, spans-long ns)

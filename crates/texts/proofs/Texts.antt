@@ -1,7 +1,7 @@
 -- The whole text: its length, its lines one behind another, and the answer of the call. Assumes nothing.
 use mathlib.Core.Bool.{Bool, true, false}
 use mathlib.Core.List.{List, [], _∷_, _++_, map, append-assoc}
-use mathlib.Core.Path.{_≡_, refl, sym, ap, _∙_}
+use mathlib.Core.Path.{_≡_, refl, ap, _∙_}
 use Prim.Native.Nat.{ℕ, zero, suc, _+_, _*_, _-_, _≤_, _<_}
 use native.Mathlib.Nat.{add-zero, sub-zero}
 use native.Mathlib.Numerals.{add-one}
@@ -9,36 +9,38 @@ use native.Mathlib.Omega.{arith}
 use mir.Syntax.{w64}
 use mir.Val.{Fits}
 use borrow.Author.Needs.{needs}
-use lib.ListN.{length, take, drop, length-append}
+use lib.ListN.{length, length-append}
 use Rattle.basis.specs.declared.Verdict.the-variants.{Passes}
 use Rattle.basis.specs.Answers.{firstRefusal, Gives}
 use Rattle.basis.specs.Bytes.{splice, Written}
+use Rattle.basis.proofs.Bytes.{length-written, written-then}
 use Rattle.basis.specs.Lists.{countUp, joined}
-use Rattle.meaning.specs.Report.{figureCount, entriesAt, entryLength, entryCount, entryAt, entryIn, entriesOf, wellFormed}
-use Rattle.meaning.specs.Text.{textLine, reportText}
+use Rattle.meaning.specs.Report.{figureCount, entriesAt, entryLength, entryCount, entryAt, entryIn, entriesOf, reportYear, wellFormed}
+use Rattle.meaning.specs.Text.{decimal, textLine, reportText}
 use Rattle.meaning.specs.Calls.{formTest, text}
 use Rattle.meaning.proofs.Calls.{refused-gives, short-gives, made-gives}
-use Rattle.meaning.proofs.Reports.{length-masses, length-figures, length-totals}
+use Rattle.meaning.proofs.Reports.{formed, count-is, length-masses, length-figures, length-totals}
 use Rattle.fields.specs.Fields.{Field}
 use Rattle.reports.specs.Figures.{figuresAt}
 use Rattle.reports.specs.Stated.{Readable}
-use Rattle.texts.specs.Digits.{field, pair, Ends, Put}
+use Rattle.texts.specs.Digits.{field, pair, Ends, Put, Placed}
+use Rattle.texts.proofs.Counts.{some-digit, decimal-many}
 use Rattle.texts.proofs.Digits.{put-none, put-before}
-use Rattle.texts.specs.Rows.{Measured, headNumbers, entryNumbers, headLine, entryLine, entryLines, textOf, Needed}
-use Rattle.texts.proofs.Lines.{second-room, first-room, own-end, own-written}
-use Rattle.texts.proofs.Rows.{head-read, entry-read, method-read, line-long}
+use Rattle.texts.specs.Rows.{Measured, headNumbers, entryNumbers, frontFields, entryLine, entryLines, textOf}
+use Rattle.texts.proofs.Lines.{length-field, second-room, first-room}
+use Rattle.texts.proofs.Rows.{totals-are, entry-read, method-read}
 use Rattle.texts.proofs.Rows.{length-figures as figures-length}
 
 -- the lines of the entries from i on
 unfoldable pub linesFrom : List ℕ → ℕ → List ℕ
 linesFrom b i = joined (map (λ e. textLine (entryNumbers e)) (map (λ j. entryIn (entryAt b j)) (countUp i (entryCount b - i))))
 
-text-parts : (b : List ℕ) → textOf b ≡ headLine b ++ entryLines b
-unfolding reportText headLine headNumbers entryNumbers entryLines
+text-parts : (b : List ℕ) → textOf b ≡ textLine (headNumbers b) ++ entryLines b
+unfolding reportText headNumbers entryNumbers entryLines
 text-parts b = refl
 
-text-length : (b : List ℕ) → length (textOf b) ≡ length (headLine b) + length (entryLines b)
-text-length b = ap length (text-parts b) ∙ length-append (headLine b) (entryLines b)
+text-length : (b : List ℕ) → length (textOf b) ≡ length (textLine (headNumbers b)) + length (entryLines b)
+text-length b = ap length (text-parts b) ∙ length-append (textLine (headNumbers b)) (entryLines b)
 
 lines-all : (b : List ℕ) → linesFrom b 0 ≡ entryLines b
 unfolding linesFrom entryLines entriesOf
@@ -61,7 +63,6 @@ pub record Lengthening (b : List ℕ) (total i : ℕ) : Type 0 where
   pub low : i ≤ entryCount b
   pub rest : total + length (linesFrom b i) ≡ length (textOf b)
   pub small : total ≤ lineMost * (i + 1)
-  pub head : length (headLine b) ≤ lineMost
 
 length-head : (b : List ℕ) → length (headNumbers b) ≡ 2 + figureCount
 unfolding headNumbers
@@ -72,10 +73,8 @@ unfolding entryNumbers
 length-entry b i = ap (λ (k : ℕ). suc (suc k)) (length-figures (entryIn (entryAt b i)) (length-masses (entryAt b i)))
 
 pub lengthening-none : (b : List ℕ) {n : ℕ} → Measured (headNumbers b) n → Lengthening b n 0
-unfolding headLine
-lengthening-none b {n} m =
-    let t : length (textOf b) ≡ length (headLine b) + length (linesFrom b 0) = rw (lines-all b) (text-length b) in
-    record { low = omega arith; rest = omega (arith, m .is); small = omega (arith, length-head b, m .small); head = omega (arith, length-head b, m .is, m .small) }
+lengthening-none b m =
+    record { low = omega arith; rest = omega (arith, m .is, text-length b, ap length (lines-all b)); small = omega (arith, length-head b, m .small) }
 
 module _ {b : List ℕ} {total i : ℕ} (t : Lengthening b total i) {n : ℕ} (f : Field 2 b 8 n) where
   module _ (l : i < n) (r : Readable b) {k : ℕ} (m : Measured (entryNumbers (entryIn (entryAt b i))) k) where
@@ -90,10 +89,10 @@ module _ {b : List ℕ} {total i : ℕ} (t : Lengthening b total i) {n : ℕ} (f
     lengthening-more =
         let s : length (linesFrom b i) ≡ length (entryLine b i) + length (linesFrom b (i + 1)) =
         ap length (lines-next b i (omega (arith, f .is))) ∙ length-append (entryLine b i) (linesFrom b (i + 1)) in
-        record { low = omega (arith, f .is); rest = omega (arith, t .rest, m .is); small = omega (arith, line-small, t .small); head = t .head }
+        record { low = omega (arith, f .is); rest = omega (arith, t .rest, m .is); small = omega (arith, line-small, t .small) }
 
-  pub lengthening-all : n ≤ i → Needed b total
-  lengthening-all l = record { is = omega (arith, t .rest, ap length (lines-none b i (omega (arith, f .is)))); head = t .head }
+  pub lengthening-all : n ≤ i → total ≡ length (textOf b)
+  lengthening-all l = omega (arith, t .rest, ap length (lines-none b i (omega (arith, f .is))))
 
 pub ruleset lengthening = (needs, lengthening-none, lengthening-fits, lengthening-more, lengthening-all)
 
@@ -164,8 +163,6 @@ module _ {b : List ℕ} {at co2 ch4 n2o equivalent : ℕ} (c : Field 8 b at co2)
       pub figures-put : {zs : List ℕ} {q : ℕ} → Put ys q (pair co2 ch4 32) zs p → Put xs q (textLine (figuresAt figureCount b at)) zs end
       figures-put v = rw figures-parts (put-before w v)
 
-pub ruleset figuring = (needs, figures-second, figures-first, figures-put)
-
 line-parts : (a b : ℕ) (fs : List ℕ) → 0 < length fs → textLine (a ∷ b ∷ fs) ≡ pair a b 32 ++ textLine fs
 unfolding textLine pair field
 line-parts a b [] h = absurd (omega arith)
@@ -193,59 +190,70 @@ module _ {b : List ℕ} {i number method : ℕ} (f : Field 4 b (entriesAt + entr
     pub entry-put : {zs : List ℕ} {q : ℕ} → Put ys q (pair number method 32) zs p → Put xs q (entryLine b i) zs end
     entry-put v = rw entry-parts (put-before w v)
 
--- the first line, in a room of its own
-module _ {b : List ℕ} {year n : ℕ} (y : Field 2 b 6 year) (f : Field 2 b 8 n) (h : Readable b × (length (headLine b) ≤ 126))
-    (xs : List ℕ) (e : length xs ≡ 133) where
-  abbrev headFigures : List ℕ
-  headFigures = textLine (figuresAt figureCount b 24)
+-- the first two numbers, at the front
+module _ {b : List ℕ} {year n : ℕ} (y : Field 2 b 6 year) (f : Field 2 b 8 n) (xs : List ℕ) (h : Readable b × (length (frontFields b) ≤ length xs)) where
+  front-parts : frontFields b ≡ field year 32 ++ field n 32
+  unfolding frontFields pair
+  front-parts = rw (y .is, f .is, count-is b)
 
-  head-parts : headLine b ≡ pair year n 32 ++ headFigures
-  unfolding headLine
-  head-parts = rw (head-read (h .0) y f) (line-parts year n (figuresAt figureCount b 24) (omega (arith, figures-length b 24)))
+  front-length : length (frontFields b) ≡ length (decimal year) + 1 + (length (decimal n) + 1)
+  front-length = ap length front-parts ∙ length-append (field year 32) (field n 32) ∙ rw (length-field year 32, length-field n 32)
 
-  head-ends : Ends xs (pair year n 32 ++ headFigures) 133
-  head-ends = record { short = omega (arith, h .1, ap length head-parts); within = omega arith }
+  pub year-room : 0 + (length (decimal year) + 1) ≤ length xs
+  year-room = omega (arith, h .1, front-length)
 
-  pub head-figures : Ends xs headFigures 133
-  head-figures = second-room (pair year n 32) headFigures head-ends
+  module _ {ys : List ℕ} {at : ℕ} (w : Placed xs 0 (field year 32) ys at) where
+    pub count-room : at + (length (decimal n) + 1) ≤ length ys
+    count-room = omega (arith, h .1, front-length, w .ends, length-field year 32, length-written (w .written))
 
-  module _ {ys : List ℕ} {p : ℕ} (w : Put xs p headFigures ys 133) where
-    pub head-pair : Ends ys (pair year n 32) p
-    head-pair = first-room (pair year n 32) headFigures head-ends w
+    pub front-written : {zs : List ℕ} {r : ℕ} → Placed ys at (field n 32) zs r → Written xs 0 (frontFields b) zs
+    front-written v = rw front-parts (written-then (w .written) (v .written) (w .ends))
 
-    pub head-put : {zs : List ℕ} {q : ℕ} → Put ys q (pair year n 32) zs p → Put xs q (headLine b) zs 133
-    head-put v = rw head-parts (put-before w v)
+-- the lines of the entries, the totals before them, and the front
+module _ (b buf : List ℕ) (end : ℕ) (h : Readable b × (end ≡ length (textOf b)) × (end ≤ length buf)) where
+  abbrev totalsLine : List ℕ
+  totalsLine = textLine (figuresAt figureCount b 24)
 
-pub ruleset lining = (needs, entry-figures, entry-pair, entry-put, head-figures, head-pair, head-put)
+  head-parts : textLine (headNumbers b) ≡ frontFields b ++ totalsLine
+  unfolding headNumbers frontFields
+  head-parts =
+      rw (totals-are (h .0)) (line-parts (reportYear b) (length (entriesOf b)) (figuresAt figureCount b 24) (omega (arith, figures-length b 24)))
 
--- the lines of the entries, and the first line before them
-module _ (b buf : List ℕ) (end : ℕ) (h : Readable b × Needed b end × (end ≤ length buf)) where
-  head-long : 7 ≤ length (headLine b)
-  unfolding headLine
-  head-long = omega (arith, line-long (headNumbers b) (omega (arith, length-head b)), length-head b)
+  whole-length : end ≡ length (frontFields b) + length totalsLine + length (entryLines b)
+  whole-length = omega (arith, h .1, text-length b, ap length head-parts, length-append (frontFields b) totalsLine)
+
+  front-long : 7 ≤ length (frontFields b)
+  unfolding frontFields pair
+  front-long =
+      omega (
+        arith,
+        length-append (field (reportYear b) 32) (field (length (entriesOf b)) 32),
+        length-field (reportYear b) 32,
+        length-field (length (entriesOf b)) 32,
+        decimal-many 3 (reportYear b) (omega (arith, formed b (h .0 .right) .header .year .0)),
+        some-digit (length (entriesOf b)),
+      )
 
   pub lines-room : Ends buf (entryLines b) end
-  lines-room = record { short = omega (arith, h .1 .is, text-length b, head-long); within = h .2 }
+  lines-room = record { short = omega (arith, whole-length, front-long); within = h .2 }
 
-  module _ {cs : List ℕ} {at : ℕ} (w : Put buf at (entryLines b) cs end) where
-    text-written : {ds : List ℕ} → Written cs 0 (headLine b) ds → Written buf 0 (textOf b) ds
-    unfolding splice
-    text-written {ds} v =
-        let z : 0 + length (headLine b) ≡ at = omega (arith, h .1 .is, text-length b, w .ends) in
-        let e : 0 + length (textOf b) ≡ end = omega (arith, h .1 .is) in
-        record {
-          fits = omega (arith, h .1 .is, h .2);
-          is = v .is ∙ rw (z, e, w .is, text-parts b) (sym (append-assoc (headLine b) (entryLines b) (drop end buf)));
-        }
+  module _ {cs : List ℕ} {p : ℕ} (w : Put buf p (entryLines b) cs end) where
+    pub totals-room : Ends cs totalsLine p
+    totals-room = record { short = omega (arith, whole-length, front-long, w .ends); within = omega (arith, w .within, w .same, w .ends) }
 
-    module _ {room line : List ℕ} {from : ℕ} (l : Put room from (headLine b) line 133) where
-      pub text-fits : 0 + length (take (133 - from) (drop from line)) ≤ length cs
-      text-fits = rw (own-end l) (omega (arith, h .1 .is, h .2, text-length b, w .same))
+    module _ {ds : List ℕ} {at : ℕ} (t : Put cs at totalsLine ds p) where
+      pub front-room : length (frontFields b) ≤ length ds
+      front-room = omega (arith, whole-length, h .2, w .same, t .same)
 
-      pub text-copied : {ds : List ℕ} → Written cs 0 (take (133 - from) (drop from line)) ds → Written buf 0 (textOf b) ds
-      text-copied v = text-written (own-written l v)
-
-pub ruleset texted = (needs, lines-room, text-fits, text-copied)
+      pub text-written : {es : List ℕ} → Written ds 0 (frontFields b) es → Written buf 0 (textOf b) es
+      unfolding splice
+      text-written v =
+          let z : 0 + length (frontFields b) ≡ at = omega (arith, whole-length, w .ends, t .ends) in
+          let e : 0 + length (textOf b) ≡ end = omega (arith, h .1) in
+          record {
+            fits = omega (arith, h .1, h .2);
+            is = v .is ∙ rw (z, e, put-before w t .is, text-parts b, head-parts) (simp append-assoc);
+          }
 
 module _ (b : List ℕ) {right : Bool} (e : right ≡ wellFormed b) where
   module _ (t : right ≡ true) where

@@ -6,6 +6,7 @@ use lib.ListN.{length}
 use Rattle.basis.specs.Lists.{joined}
 use Rattle.meaning.specs.Report.{Entry, figures, totals, reportYear, entryAt, entryIn, entriesOf}
 use Rattle.meaning.specs.Text.{textLine, reportText}
+use Rattle.texts.specs.Digits.{pair}
 
 -- "year, count and the four totals"
 unfoldable pub headNumbers : List ℕ → List ℕ
@@ -20,9 +21,9 @@ pub record Measured (ns : List ℕ) (n : ℕ) : Type 0 where
   pub is : n ≡ length (textLine ns)
   pub small : n ≤ 21 * length ns
 
--- the first line
-unfoldable pub headLine : List ℕ → List ℕ
-headLine b = textLine (headNumbers b)
+-- "year, count", of the first line
+unfoldable pub frontFields : List ℕ → List ℕ
+frontFields b = pair (reportYear b) (length (entriesOf b)) 32
 
 -- the line of entry i
 unfoldable pub entryLine : List ℕ → ℕ → List ℕ
@@ -35,8 +36,3 @@ entryLines b = joined (map (λ e. textLine (entryNumbers e)) (entriesOf b))
 -- the text of a report
 abbrev pub textOf : List ℕ → List ℕ
 textOf b = reportText (reportYear b) (entriesOf b)
-
--- the text of a report is n bytes long, and of its first line each number has at most twenty digits
-pub record Needed (b : List ℕ) (n : ℕ) : Type 0 where
-  pub is : n ≡ length (textOf b)
-  pub head : length (headLine b) ≤ 126

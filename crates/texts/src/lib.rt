@@ -9,7 +9,7 @@ ghost use Rattle.meaning.specs.Report.{figureCount, entryCount, entryAt, entryI
 ghost use Rattle.meaning.specs.Calls.{text as Calls·text};
 ghost use Rattle.reports.specs.Figures.{figuresAt};
 ghost use Rattle.reports.specs.Stated.{Readable};
-ghost use Rattle.texts.specs.Rows.{Measured, headNumbers, entryNumbers, headLine, entryLine, entryLines, textOf, Needed};
+ghost use Rattle.texts.specs.Rows.{Measured, headNumbers, entryNumbers, frontFields, entryLine, entryLines, textOf};
 ghost use Rattle.texts.specs.Words.{powers, quarters, Paired, firstDigits, eightDigits};
 ghost use Rattle.texts.specs.Digits.{Counted, Ends, Put, Placed, Fronted, field, pair, acceptedLine};
 ghost use Rattle.texts.specs.Saying.{answerLine, textOutput};
@@ -23,9 +23,6 @@ pub const TEXT_ROOM: usize = 40960;
 
 // A field of twenty digits, and the seven bytes before it.
 const FIELD_ROOM: usize = 28;
-
-// Six such fields.
-const HEAD_ROOM: usize = 133;
 
 // "refused" with its space, and two numbers of at most twenty digits, each with the byte behind it.
 pub const LINE_ROOM: usize = 50;
@@ -201,7 +198,7 @@ fn entry_length(report: &[u8], i: usize) -> usize
 // The length of a report's text, reckoned before anything is written.
 fn text_length(report: &[u8]) -> usize
     requires { ⌜ Readable (now report) ⌝ }
-    ensures { λ r. ⌜ Needed (now (report .entry)) r ⌝ }
+    ensures { λ r. ⌜ r ≡ length (textOf (now (report .entry))) ⌝ }
 {
     let n = fields::u16_at(report, 8) as usize;
     let mut total = head_length(report);
@@ -238,26 +235,43 @@ fn put_lines(report: &[u8], buf: &mut [u8], end: usize) -> usize
     p
 }
 
-// "year, count and the four totals", up to the end of a room of its own.
-fn head_line(report: &[u8], line: &mut [u8; HEAD_ROOM]) -> usize
-    requires { ⌜ Readable (now report) × (length (headLine (now report)) ≤ 126) ⌝ }
-    ensures { λ r. ⌜ Put (now (line .entry)) r (headLine (now (report .entry))) (now (line .exit)) 133 ⌝ }
+// A number and the byte behind it, up to the end of a room of its own.
+fn own_field(n: u64, after: u8, room: &mut [u8; FIELD_ROOM]) -> usize
+    ensures { λ r. ⌜ Put (now (room .entry)) r (field n after) (now (room .exit)) 28 ⌝ }
+{
+    put_field(room, FIELD_ROOM, n, after)
+}
+
+// A number and the byte behind it, from a place on, before which no byte may be lost. Answers where they end.
+fn put_field_at(buf: &mut [u8], at: usize, n: u64, after: u8) -> usize
+    requires { ⌜ at + (length (decimal n) + 1) ≤ length (now buf) ⌝ }
+    ensures { λ r. ⌜ Placed (now (buf .entry)) at (field n after) (now (buf .exit)) r ⌝ }
+{
+    let mut room = [0u8; FIELD_ROOM];
+    let from = own_field(n, after, &mut room);
+    fields::put_bytes(buf, at, &room[from..]);
+    at + (FIELD_ROOM - from)
+}
+
+// "year, count", at the front.
+fn put_front(report: &[u8], buf: &mut [u8])
+    requires { ⌜ Readable (now report) × (length (frontFields (now report)) ≤ length (now buf)) ⌝ }
+    ensures { λ _. ⌜ Written (now (buf .entry)) 0 (frontFields (now (report .entry))) (now (buf .exit)) ⌝ }
 {
     let year = fields::u16_at(report, 6);
     let n = fields::u16_at(report, 8);
-    let p = put_figures(report, 24, line, HEAD_ROOM);
-    put_pair(line, p, year, n, b' ')
+    let at = put_field_at(buf, 0, year, b' ');
+    put_field_at(buf, at, n, b' ');
 }
 
-// The whole text. The first line is copied to the front, where no byte may be lost before it.
+// The whole text, from the last line to the first. Only what stands at the front has no bytes before it.
 fn put_text(report: &[u8], buf: &mut [u8], end: usize)
-    requires { ⌜ Readable (now report) × Needed (now report) end × (end ≤ length (now buf)) ⌝ }
+    requires { ⌜ Readable (now report) × (end ≡ length (textOf (now report))) × (end ≤ length (now buf)) ⌝ }
     ensures { λ _. ⌜ Written (now (buf .entry)) 0 (textOf (now (report .entry))) (now (buf .exit)) ⌝ }
 {
-    put_lines(report, buf, end);
-    let mut line = [0u8; HEAD_ROOM];
-    let from = head_line(report, &mut line);
-    fields::put_bytes(buf, 0, &line[from..]);
+    let p = put_lines(report, buf, end);
+    put_figures(report, 24, buf, p);
+    put_front(report, buf);
 }
 
 // The text of a report at the front of a buffer: 9 with place 1, then 8 with the length needed.
@@ -286,24 +300,6 @@ pub fn text(report: &[u8], buffer: &mut [u8]) -> Answer
         place: 1,
         length: 0,
     }
-}
-
-// A number and the byte behind it, up to the end of a room of its own.
-fn own_field(n: u64, after: u8, room: &mut [u8; FIELD_ROOM]) -> usize
-    ensures { λ r. ⌜ Put (now (room .entry)) r (field n after) (now (room .exit)) 28 ⌝ }
-{
-    put_field(room, FIELD_ROOM, n, after)
-}
-
-// A number and the byte behind it, from a place on, before which no byte may be lost. Answers where they end.
-fn put_field_at(buf: &mut [u8], at: usize, n: u64, after: u8) -> usize
-    requires { ⌜ at + (length (decimal n) + 1) ≤ length (now buf) ⌝ }
-    ensures { λ r. ⌜ Placed (now (buf .entry)) at (field n after) (now (buf .exit)) r ⌝ }
-{
-    let mut room = [0u8; FIELD_ROOM];
-    let from = own_field(n, after, &mut room);
-    fields::put_bytes(buf, at, &room[from..]);
-    at + (FIELD_ROOM - from)
 }
 
 // A number and the byte behind it, at the front of an array in which twenty digits fit. Answers how many bytes they are.

@@ -1,6 +1,6 @@
 use native.Mathlib.Omega.{arith}
 use borrow.Author.Needs.{needs}
-use Rattle.texts.proofs.Digits.{Spelling, digit-put, spelling-none, spelling-kept, spelling-some, spelling-at, spelling-same, spelling-more, spelling-all, spelling-within}
+use Rattle.texts.proofs.Digits.{Spelling, digit-put, spelling-none, spelling-some, spelling-at, spelling-same, spelling-more, spelling-all, spelling-within}
 use Rattle.texts.proofs.put_digits.Statement.{statement}
 use Rattle.texts.proofs.put_digits.Tie as tie
 

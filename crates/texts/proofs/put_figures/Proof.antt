@@ -1,4 +1,3 @@
-use native.Mathlib.Omega.{arith}
 use borrow.Author.Needs.{needs}
 use Rattle.texts.proofs.Texts.{figures-second, figures-first, figures-put}
 use Rattle.texts.proofs.put_figures.Statement.{statement}

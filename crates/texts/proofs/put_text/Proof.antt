@@ -1,5 +1,5 @@
 use borrow.Author.Needs.{needs}
-use Rattle.texts.proofs.Texts.{texted}
+use Rattle.texts.proofs.Texts.{lines-room, totals-room, front-room, text-written}
 use Rattle.texts.proofs.put_text.Statement.{statement}
 use Rattle.texts.proofs.put_text.Tie as tie
 
@@ -7,11 +7,8 @@ pub put-text-spec : {M : Type 1} → statement M
 put-text-spec =
     tie.close
     (tie.spec
-    (λ c κs. (search needs, search texted))
-    (λ c κs. search needs)
+    (λ c κs. (search needs, search (needs, lines-room)))
+    (λ c κs. (search needs, search (needs, totals-room)))
+    (λ c κs. (search needs, front-room _ _ _ (c .before .before .before .before .before .before .before .before .before .before .before .pre) (c .before .before .before .before .before .before .before .put-lines .ensures) (c .before .before .before .put-figures .ensures)))
     (search needs)
-    (search needs)
-    (search needs)
-    (λ c κs. search texted)
-    (search needs)
-    (λ c. search texted))
+    (λ c. text-written _ _ _ (c .before .before .before .before .before .before .before .before .before .before .before .before .before .before .pre) (c .before .before .before .before .before .before .before .before .before .before .put-lines .ensures) (c .before .before .before .before .before .before .put-figures .ensures) (c .before .before .put-front .ensures)))
