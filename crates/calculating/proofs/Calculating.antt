@@ -30,8 +30,9 @@ use Rattle.registers.specs.Keys.{sortedKeys, keysFor, Tested}
 use Rattle.registers.proofs.Passed.{length-sortedKeys}
 use Rattle.registers.proofs.Tested.{passed-headed, keys-left}
 use Rattle.issuing.specs.Ready.{Ready}
-use Rattle.calculating.specs.Sources.{Passed, Judged, Keyed}
-use Rattle.calculating.proofs.Pass.{none-faulty}
+use Rattle.judging.specs.Sources.{Passed, Judged}
+use Rattle.judging.proofs.Pass.{none-faulty}
+use Rattle.calculating.specs.Keyed.{Keyed}
 
 -- a refusal of tests 1 to 4
 pub register-refused : {b keys left report : List ℕ} {v : Verdict} {n p : ℕ} → Tested b keys v left → v ≡ Refuses n p

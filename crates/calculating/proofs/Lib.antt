@@ -1,4 +1,1 @@
-pub mod Judging
-pub mod Waiting
-pub mod Pass
 pub mod Calculating

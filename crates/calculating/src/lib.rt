@@ -1,6 +1,4 @@
 // Document 01: calculation, from the bytes of a register to those of its report.
-mod sources;
-
 ghost use mathlib.Core.Path.{_≡_};
 ghost use Prim.Native.Nat.{_*_, _≤_};
 ghost use lib.ListN.{length};
@@ -11,10 +9,10 @@ ghost use Rattle.meaning.specs.Report.{figureCount};
 ghost use Rattle.meaning.specs.Calls.{calculationTests, calculated};
 ghost use Rattle.registers.specs.Keys.{keysFor};
 ghost use Rattle.issuing.specs.Ready.{Ready};
-ghost use Rattle.calculating.specs.Sources.{Keyed};
+ghost use Rattle.calculating.specs.Keyed.{Keyed};
 use basis::Answer;
 use basis::Verdict;
-use sources::judge_sources;
+use judging::judge_sources;
 
 // So few sources, and so many as a plant mostly has, do not pay for clearing the room of 512.
 const FEW: usize = 8;

@@ -5,7 +5,7 @@ ghost use lib.ListN.{length};
 ghost use Rattle.basis.specs.Bytes.{Written};
 ghost use Rattle.meaning.specs.Register.{sourceCount};
 ghost use Rattle.meaning.specs.Report.{figureCount};
-ghost use Rattle.calculating.specs.Sources.{Passed, Begins, ComesAt, waited, Judged};
+ghost use Rattle.judging.specs.Sources.{Passed, Begins, ComesAt, waited, Judged};
 use basis::Verdict;
 use masses::FIGURES;
 

@@ -1,8 +1,8 @@
 use Prim.Native.Nat.{_-_}
 use lib.ListN.{length}
 use Rattle.fields.proofs.Laws.{Copied, copying}
-use Rattle.calculating.proofs.sources.keep.Statement.{statement}
-use Rattle.calculating.proofs.sources.keep.Tie as tie
+use Rattle.judging.proofs.keep.Statement.{statement}
+use Rattle.judging.proofs.keep.Tie as tie
 
 abbrev Inv-loop : tie.InvT-loop
 Inv-loop kept₀ at figures k₀ kept k = Copied kept₀ at figures kept k

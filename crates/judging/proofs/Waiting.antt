@@ -16,7 +16,7 @@ use Rattle.basis.specs.First.{scan, first}
 use Rattle.basis.specs.Answers.{refuseIf}
 use Rattle.meaning.specs.Register.{Source}
 use Rattle.meaning.specs.Calls.{massFault, faultAt, massTest}
-use Rattle.calculating.specs.Sources.{waited}
+use Rattle.judging.specs.Sources.{waited}
 
 pub waited-none : (w : Verdict) (fault i : ℕ) → w ≡ Passes → fault ≡ 0 → Passes ≡ waited w fault i
 unfolding waited

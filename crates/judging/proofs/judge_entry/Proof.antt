@@ -1,7 +1,7 @@
 use borrow.Author.Needs.{needs}
-use Rattle.calculating.proofs.Judging.{states, lines-fit, lines-stand, comes-at}
-use Rattle.calculating.proofs.sources.judge_entry.Statement.{statement}
-use Rattle.calculating.proofs.sources.judge_entry.Tie as tie
+use Rattle.judging.proofs.Judging.{states, lines-fit, lines-stand, comes-at}
+use Rattle.judging.proofs.judge_entry.Statement.{statement}
+use Rattle.judging.proofs.judge_entry.Tie as tie
 
 pub judge-entry-spec : {M : Type 1} → statement M
 judge-entry-spec =

@@ -20,7 +20,7 @@ use Rattle.masses.specs.declared.Source.{Source}
 use Rattle.masses.specs.Lines.{readAt, readFrom, Lines}
 use Rattle.masses.specs.Judged.{Comes}
 use Rattle.meaning.proofs.Registers.{right-register}
-use Rattle.calculating.specs.Sources.{Passed, Begins, ComesAt}
+use Rattle.judging.specs.Sources.{Passed, Begins, ComesAt}
 
 -- the pair of a sound source is listed
 unsound-listed : (b : List ℕ) (i : ℕ) → unsound (sourceAt b i) ≡ false → listed (methodIn (sourceEntry b i)) (parameterIn (sourceEntry b i)) ≡ true

@@ -3,9 +3,9 @@ use native.Mathlib.Omega.{arith}
 use borrow.Author.Tests.{not-true, not-false}
 use mathlib.Core.Path.{_≡_}
 use Rattle.meaning.specs.Register.{linesAt, sourceCount, lineStart}
-use Rattle.calculating.proofs.Pass.{Passing, begins-first, begins-next, passing-bad, passing-more, passing-all, passing}
-use Rattle.calculating.proofs.sources.judge_sources.Statement.{statement}
-use Rattle.calculating.proofs.sources.judge_sources.Tie as tie
+use Rattle.judging.proofs.Pass.{Passing, begins-first, begins-next, passing-bad, passing-more, passing-all, passing}
+use Rattle.judging.proofs.judge_sources.Statement.{statement}
+use Rattle.judging.proofs.judge_sources.Tie as tie
 
 abbrev Inv-loop : tie.InvT-loop
 Inv-loop register kept₀ n base first₀ waiting₀ i₀ kept first waiting i =

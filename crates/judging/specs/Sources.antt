@@ -9,12 +9,11 @@ use Rattle.basis.specs.declared.Verdict.the-variants.{Passes, Refuses}
 use Rattle.basis.specs.declared.Verdict.{Verdict}
 use Rattle.basis.specs.Answers.{firstRefusal}
 use Rattle.registers.specs.Layout.{Headed}
-use Rattle.registers.specs.Keys.{sortedKeys}
 use Rattle.meaning.specs.Methods.{isBad, decoded}
 use Rattle.meaning.specs.Register.{linesAt, lineAt, sourceEntry, methodIn, parameterIn, firstLineIn, lineCountIn, sourceAt, sourceCount, sourcesOf, registerTests}
 use Rattle.meaning.specs.Report.{entryOf, figures, figureCount}
 use Rattle.meaning.specs.Calls.{massFault, lineTest, massTest}
-use Rattle.calculating.specs.declared.sources.Judgement.{Judgement}
+use Rattle.judging.specs.declared.Judgement.{Judgement}
 
 -- a register that tests 1 to 4 have passed
 pub record Passed (b : List ℕ) : Type 0 where
@@ -54,9 +53,3 @@ Stored b kept i = take figureCount (drop (figureCount * i) kept) ≡ figures (en
 pub record Judged (b : List ℕ) (v : Verdict) (kept : List ℕ) : Type 0 where
   pub verdict : v ≡ firstRefusal (lineTest (sourcesOf b) ∷ massTest (sourcesOf b) ∷ [])
   pub stored : v ≡ Passes → (i : ℕ) → i < sourceCount b → Stored b kept i
-
--- a register that tests 1 to 4 have passed, its keys in ascending order, and room for the figures of its sources
-pub record Keyed (b keys kept : List ℕ) : Type 0 where
-  pub passed : Passed b
-  pub order : take (sourceCount b) keys ≡ sortedKeys b
-  pub room : figureCount * sourceCount b ≤ length kept

@@ -30,9 +30,9 @@ use Rattle.meaning.proofs.Reports.{length-figures}
 use Rattle.meaning.proofs.Lines.{Following, allLines, next-line, length-lines, line-is}
 use Rattle.meaning.proofs.Sources.{Placed, placed, noSource, length-sources, source-at}
 use Rattle.meaning.proofs.Registers.{right-register}
-use Rattle.calculating.specs.Sources.{Passed, Begins, badFor, ComesAt, waited, Stored, Judged}
-use Rattle.calculating.specs.declared.sources.Judgement.{Judgement}
-use Rattle.calculating.proofs.Waiting.{waitedFrom, mass-test}
+use Rattle.judging.specs.Sources.{Passed, Begins, badFor, ComesAt, waited, Stored, Judged}
+use Rattle.judging.specs.declared.Judgement.{Judgement}
+use Rattle.judging.proofs.Waiting.{waitedFrom, mass-test}
 
 -- where an entry of a register that has passed stands
 stands : (b : List ℕ) → Passed b → (i : ℕ) → i < sourceCount b → Placed b i

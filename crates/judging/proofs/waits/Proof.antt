@@ -1,6 +1,6 @@
-use Rattle.calculating.proofs.Waiting.{waiting}
-use Rattle.calculating.proofs.sources.waits.Statement.{statement}
-use Rattle.calculating.proofs.sources.waits.Tie as tie
+use Rattle.judging.proofs.Waiting.{waiting}
+use Rattle.judging.proofs.waits.Statement.{statement}
+use Rattle.judging.proofs.waits.Tie as tie
 
 pub waits-spec : {M : Type 1} → statement M
 waits-spec =
