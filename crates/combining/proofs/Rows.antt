@@ -19,9 +19,10 @@ use Rattle.meaning.proofs.Lengths.{Massed, length-entry, length-header}
 use Rattle.meaning.proofs.Reports.{Formed, formed, length-masses, length-totals, total-is, totals-by, total-read, totals-read}
 use Rattle.fields.specs.Fields.{Field}
 use Rattle.reports.specs.Figures.{figureAt, figuresAt, addedAt, Addable}
-use Rattle.reports.specs.Stated.{Readable, statedHeader}
+use Rattle.reports.specs.Stated.{Readable}
 use Rattle.reports.proofs.Entries.{figure-small}
-use Rattle.reports.proofs.Writing.{header-stated}
+use Rattle.stating.specs.Parts.{statedHeader}
+use Rattle.stating.proofs.Writing.{header-stated}
 use Rattle.combining.specs.Entries.{entriesFrom, rows, entryNumber}
 use Rattle.combining.proofs.Order.{sum-sorted}
 

@@ -22,8 +22,8 @@ use Rattle.meaning.proofs.Lengths.{source-massed, length-entry}
 use Rattle.registers.specs.Keys.{keyAt, numberOfKey, indexOfKey, sortedKeys}
 use Rattle.registers.proofs.Tested.{passed-headed}
 use Rattle.registers.proofs.Passed.{length-sortedKeys, passed-parts, passed-key}
-use Rattle.reports.specs.Stated.{statedEntry, statedFront, statedHeader}
-use Rattle.reports.proofs.Writing.{length-figureBytes, entry-stated, header-stated}
+use Rattle.stating.specs.Parts.{statedEntry, statedFront, statedHeader}
+use Rattle.stating.proofs.Writing.{length-figureBytes, entry-stated, header-stated}
 use Rattle.issuing.specs.Ready.{Ready, entryOfKey, total, totalsOf}
 use Rattle.issuing.proofs.Keyed.{keys-in-order}
 use Rattle.issuing.proofs.Summing.{summable, totals-are}

@@ -61,7 +61,7 @@ fn put_source(register: &[u8], keys: &[u64], k: usize, figures: &[u64], report: 
     let method = fields::u8_at(register, SOURCES + SOURCE * index + METHOD);
     let start = FIGURES * index;
     let end = start + FIGURES;
-    reports::put_entry(
+    stating::put_entry(
         report,
         ENTRIES_AT + ENTRY_LENGTH * k,
         key / MOST,
@@ -91,6 +91,6 @@ pub fn write_report(register: &[u8], keys: &[u64], figures: &[u64], report: &mut
     let year = fields::u16_at(register, 6);
     let n = fields::u16_at(register, 8);
     let totals = totals_of(figures, n as usize);
-    reports::put_header(report, year, n, &totals);
+    stating::put_header(report, year, n, &totals);
     put_sources(register, keys, figures, report);
 }

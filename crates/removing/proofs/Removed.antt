@@ -23,9 +23,10 @@ use Rattle.meaning.specs.Calls.{numbered}
 use Rattle.meaning.proofs.Reports.{formed}
 use Rattle.fields.specs.Fields.{Field}
 use Rattle.reports.specs.Figures.{figureAt}
-use Rattle.reports.specs.Stated.{Readable, statedHeader}
+use Rattle.reports.specs.Stated.{Readable}
+use Rattle.stating.specs.Parts.{statedHeader}
 use Rattle.basis.proofs.Filling.{Filled, filled-none, filled-now, filled-more, filled-all}
-use Rattle.reports.proofs.Writing.{entry-stands}
+use Rattle.stating.proofs.Writing.{entry-stands}
 use Rattle.combining.specs.Entries.{entriesFrom, rows, entryNumber}
 use Rattle.removing.specs.Others.{numberedAt, otherEntries, takenAt, Takeable}
 use Rattle.meaning.proofs.Lengths.{Massed}

@@ -95,7 +95,7 @@ fn put_other_header(report: &[u8], i: usize, result: &mut [u8])
     let totals = other_totals(report, i);
     let year = year_of(report);
     let n = entry_count(report) - 1;
-    reports::put_header(result, year, n as u64, &totals);
+    stating::put_header(result, year, n as u64, &totals);
 }
 
 // "Removal writes the report without that entry"

@@ -2,4 +2,3 @@ pub mod Filling
 pub mod Entries
 pub mod Pass
 pub mod Judged
-pub mod Writing

@@ -1,18 +1,16 @@
-// Document 01, "The report": whether a report is well-formed, and the writing of its header and of its entries.
+// Document 01, "The report": whether a report is well-formed, and its figures read.
 ghost use mathlib.Core.Bool.{_&&_, not};
-ghost use mathlib.Core.List.{[], _∷_, _++_};
 ghost use mathlib.Core.Path.{_≡_};
 ghost use Prim.Native.Nat.{_+_, _*_, _≤_, _<_};
 ghost use lib.ListN.{length, drop};
-ghost use Rattle.basis.specs.Bytes.{Written, packed};
 ghost use Rattle.basis.specs.Lists.{any, countUp};
 ghost use Rattle.meaning.specs.Register.{mostSources};
-ghost use Rattle.meaning.specs.Report.{figureCount, reportTag, reportLayout, entriesAt, entryLength, reportLength, entryBytes, entryCount, entryAt, entryIn, entriesOf, headerRight, numberBefore, wrongEntry, wrongTotal, wellFormed};
+ghost use Rattle.meaning.specs.Report.{figureCount, entriesAt, entryLength, reportLength, entryCount, entryIn, entriesOf, headerRight, numberBefore, wrongEntry, wrongTotal, wellFormed};
 ghost use Rattle.meaning.specs.Report.{totals as Report·totals};
 ghost use Rattle.meaning.specs.Calls.{checked};
 ghost use Rattle.fields.specs.Fields.{Field};
 ghost use Rattle.reports.specs.Figures.{figuresAt, addedAt, Addable};
-ghost use Rattle.reports.specs.Stated.{Readable, figureBytes, statedEntry, statedFront, statedHeader, wrongEquivalent, frontRight};
+ghost use Rattle.reports.specs.Stated.{wrongEquivalent, frontRight};
 use basis::Answer;
 use exact::GASES;
 use exact::Weighed;
@@ -195,93 +193,4 @@ pub fn check(report: &[u8]) -> Answer
         place: 1,
         length: 0,
     }
-}
-
-// Figures over what stands from a place on, eight bytes each.
-pub fn put_figures(buf: &mut [u8], at: usize, figures: &[u64])
-    requires { ⌜ at + 8 * length (now figures) ≤ length (now buf) ⌝ }
-    ensures { λ _. ⌜ Written (now (buf .entry)) at (figureBytes (now (figures .entry))) (now (buf .exit)) ⌝ }
-{
-    let mut k: usize = 0;
-    while k < figures.len() {
-        fields::put_u64(buf, at + 8 * k, figures[k]);
-        k += 1;
-    }
-}
-
-fn put_entry_front(buf: &mut [u8], at: usize, number: u64, method: u64)
-    requires { ⌜ at + 8 ≤ length (now buf) ⌝ }
-    ensures { λ _. ⌜ Written (now (buf .entry)) at (packed (4 ∷ 1 ∷ 3 ∷ []) (number ∷ method ∷ 0 ∷ [])) (now (buf .exit)) ⌝ }
-{
-    fields::put_u32(buf, at, number);
-    fields::put_u8(buf, at + 4, method);
-    fields::put_zeros(buf, at + 5, 3);
-}
-
-// The entry of a number, a method and figures.
-pub fn put_entry(buf: &mut [u8], at: usize, number: u64, method: u64, figures: &[u64])
-    requires { ⌜ (at + entryLength ≤ length (now buf)) × (length (now figures) ≡ figureCount) ⌝ }
-    ensures { λ _. ⌜ Written (now (buf .entry)) at (statedEntry number method (now (figures .entry))) (now (buf .exit)) ⌝ }
-{
-    put_entry_front(buf, at, number, method);
-    put_figures(buf, at + 8, figures);
-}
-
-// "Every report starts with the four bytes GREP. Then: layout 1 (2), year (2)"
-fn put_tag_and_year(buf: &mut [u8], year: u64)
-    requires { ⌜ entriesAt ≤ length (now buf) ⌝ }
-    ensures { λ _. ⌜ Written (now (buf .entry)) 0 (reportTag ++ packed (2 ∷ 2 ∷ []) (reportLayout ∷ year ∷ [])) (now (buf .exit)) ⌝ }
-{
-    fields::put_bytes(buf, 0, b"GREP");
-    fields::put_u16(buf, 4, 1);
-    fields::put_u16(buf, 6, year);
-}
-
-// "count n (2), zero (2), offset of entries 56 (4)"
-fn put_count(buf: &mut [u8], n: u64)
-    requires { ⌜ entriesAt ≤ length (now buf) ⌝ }
-    ensures { λ _. ⌜ Written (now (buf .entry)) 8 (packed (2 ∷ 2 ∷ 4 ∷ []) (n ∷ 0 ∷ entriesAt ∷ [])) (now (buf .exit)) ⌝ }
-{
-    fields::put_u16(buf, 8, n);
-    fields::put_zeros(buf, 10, 2);
-    fields::put_u32(buf, 12, 56);
-}
-
-// "whole length 56 + 40n (4), zero (4)"
-fn put_length(buf: &mut [u8], n: u64)
-    requires { ⌜ (entriesAt ≤ length (now buf)) × (n ≤ mostSources) ⌝ }
-    ensures { λ _. ⌜ Written (now (buf .entry)) 16 (packed (4 ∷ 4 ∷ []) (reportLength n ∷ 0 ∷ [])) (now (buf .exit)) ⌝ }
-{
-    fields::put_u32(buf, 16, length_of(n));
-    fields::put_zeros(buf, 20, 4);
-}
-
-fn put_header_front(buf: &mut [u8], year: u64, n: u64)
-    requires { ⌜ (entriesAt ≤ length (now buf)) × (n ≤ mostSources) ⌝ }
-    ensures { λ _. ⌜ Written (now (buf .entry)) 0 (statedFront year n) (now (buf .exit)) ⌝ }
-{
-    put_tag_and_year(buf, year);
-    put_count(buf, n);
-    put_length(buf, n);
-}
-
-// The header of a year, a count and totals.
-pub fn put_header(buf: &mut [u8], year: u64, n: u64, totals: &[u64])
-    requires { ⌜ (entriesAt ≤ length (now buf)) × (n ≤ mostSources) × (length (now totals) ≡ figureCount) ⌝ }
-    ensures { λ _. ⌜ Written (now (buf .entry)) 0 (statedHeader year n (now (totals .entry))) (now (buf .exit)) ⌝ }
-{
-    put_header_front(buf, year, n);
-    put_figures(buf, 24, totals);
-}
-
-// An entry as it stands, carried to its place in another report by way of a spare array.
-pub fn carry_entry(from: &[u8], i: usize, to: &mut [u8], at: usize)
-    requires { ⌜ Readable (now from) × (i < entryCount (now from)) × (at + entryLength ≤ length (now to)) ⌝ }
-    ensures { λ _. ⌜ Written (now (to .entry)) at (entryBytes (entryIn (entryAt (now (from .entry)) i))) (now (to .exit)) ⌝ }
-{
-    let mut spare = [0u8; ENTRY_LENGTH];
-    let start = ENTRIES_AT + ENTRY_LENGTH * i;
-    let end = start + ENTRY_LENGTH;
-    fields::put_bytes(&mut spare, 0, &from[start..end]);
-    fields::put_bytes(to, at, &spare);
 }

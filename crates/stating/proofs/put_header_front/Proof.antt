@@ -1,7 +1,7 @@
 use borrow.Author.Needs.{needs}
-use Rattle.reports.proofs.Writing.{front-written}
-use Rattle.reports.proofs.put_header_front.Statement.{statement}
-use Rattle.reports.proofs.put_header_front.Tie as tie
+use Rattle.stating.proofs.Writing.{front-written}
+use Rattle.stating.proofs.put_header_front.Statement.{statement}
+use Rattle.stating.proofs.put_header_front.Tie as tie
 
 pub put-header-front-spec : {M : Type 1} → statement M
 put-header-front-spec =

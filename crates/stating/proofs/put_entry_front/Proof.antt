@@ -1,7 +1,7 @@
 use borrow.Author.Needs.{needs}
-use Rattle.reports.proofs.Writing.{packed-three}
-use Rattle.reports.proofs.put_entry_front.Statement.{statement}
-use Rattle.reports.proofs.put_entry_front.Tie as tie
+use Rattle.stating.proofs.Writing.{packed-three}
+use Rattle.stating.proofs.put_entry_front.Statement.{statement}
+use Rattle.stating.proofs.put_entry_front.Tie as tie
 
 pub put-entry-front-spec : {M : Type 1} → statement M
 put-entry-front-spec =

@@ -1,8 +1,8 @@
 use Prim.Native.Nat.{_-_}
 use lib.ListN.{length}
-use Rattle.reports.proofs.Writing.{Placing, placing}
-use Rattle.reports.proofs.put_figures.Statement.{statement}
-use Rattle.reports.proofs.put_figures.Tie as tie
+use Rattle.stating.proofs.Writing.{Placing, placing}
+use Rattle.stating.proofs.put_figures.Statement.{statement}
+use Rattle.stating.proofs.put_figures.Tie as tie
 
 abbrev Inv-loop : tie.InvT-loop
 Inv-loop buf₀ at figures k₀ buf k = Placing buf₀ at figures buf k

@@ -2,9 +2,9 @@ use denote.Ref.{now}
 use native.Mathlib.Omega.{arith}
 use borrow.Author.Needs.{needs}
 use Rattle.basis.specs.Bytes.{Bytes}
-use Rattle.reports.proofs.Writing.{entry-carried}
-use Rattle.reports.proofs.carry_entry.Statement.{statement}
-use Rattle.reports.proofs.carry_entry.Tie as tie
+use Rattle.stating.proofs.Writing.{entry-carried}
+use Rattle.stating.proofs.carry_entry.Statement.{statement}
+use Rattle.stating.proofs.carry_entry.Tie as tie
 
 pub carry-entry-spec : {M : Type 1} → statement M
 carry-entry-spec =

@@ -1,7 +1,7 @@
 use borrow.Author.Needs.{needs}
-use Rattle.reports.proofs.Writing.{header-written}
-use Rattle.reports.proofs.put_header.Statement.{statement}
-use Rattle.reports.proofs.put_header.Tie as tie
+use Rattle.stating.proofs.Writing.{header-written}
+use Rattle.stating.proofs.put_header.Statement.{statement}
+use Rattle.stating.proofs.put_header.Tie as tie
 
 pub put-header-spec : {M : Type 1} → statement M
 put-header-spec =

@@ -1,7 +1,7 @@
 use borrow.Author.Needs.{needs}
-use Rattle.reports.proofs.Writing.{entry-written}
-use Rattle.reports.proofs.put_entry.Statement.{statement}
-use Rattle.reports.proofs.put_entry.Tie as tie
+use Rattle.stating.proofs.Writing.{entry-written}
+use Rattle.stating.proofs.put_entry.Statement.{statement}
+use Rattle.stating.proofs.put_entry.Tie as tie
 
 pub put-entry-spec : {M : Type 1} → statement M
 put-entry-spec =

@@ -1,7 +1,7 @@
 use borrow.Author.Needs.{needs}
-use Rattle.reports.proofs.Writing.{tag-written}
-use Rattle.reports.proofs.put_tag_and_year.Statement.{statement}
-use Rattle.reports.proofs.put_tag_and_year.Tie as tie
+use Rattle.stating.proofs.Writing.{tag-written}
+use Rattle.stating.proofs.put_tag_and_year.Statement.{statement}
+use Rattle.stating.proofs.put_tag_and_year.Tie as tie
 
 pub put-tag-and-year-spec : {M : Type 1} → statement M
 put-tag-and-year-spec =

@@ -1,7 +1,7 @@
 use borrow.Author.Needs.{needs}
-use Rattle.reports.proofs.Writing.{length-put}
-use Rattle.reports.proofs.put_length.Statement.{statement}
-use Rattle.reports.proofs.put_length.Tie as tie
+use Rattle.stating.proofs.Writing.{length-put}
+use Rattle.stating.proofs.put_length.Statement.{statement}
+use Rattle.stating.proofs.put_length.Tie as tie
 
 pub put-length-spec : {M : Type 1} → statement M
 put-length-spec =
