@@ -96,17 +96,18 @@ fn tens(pairs: u64) -> u64
         + 281474976710656 * (each / 281474976710656)
 }
 
-// Eight digits as bytes of a word, the first lowest: a pair and 48 twice, with its first digit taken out and put before it.
+// Eight digits as the bytes of a word, the first lowest, each with 48 added. A first digit that is taken away 2,559 times is taken ten times from the
+// byte of the second, and put once before it.
 fn eight_digits(n: u64) -> u64
     requires { ⌜ n < 100000000 ⌝ }
     ensures { λ r. ⌜ r ≡ numberOf (eightDigits n) ⌝ }
 {
-    let pairs = pairs(n / 10000, n % 10000);
-    256 * pairs + 3472328296227680304 - 2559 * tens(pairs)
+    let word = pairs(n / 10000, n % 10000);
+    256 * word + 3472328296227680304 - 2559 * tens(word)
 }
 
-// The digits of a number up to a place, eight at a time, with zeros before the first. What stood in the seven bytes before them may be lost.
-// Answers where they begin. Most figures are 0.
+// The digits of a number up to a place, eight at a time with zeros before the first, so that the seven bytes before them may be lost. Answers where
+// they begin. Most figures are 0, which is put alone.
 fn put_digits(buf: &mut [u8], end: usize, n: u64) -> usize
     requires { ⌜ Ends (now buf) (decimal n) end ⌝ }
     ensures { λ r. ⌜ Put (now (buf .entry)) r (decimal n) (now (buf .exit)) end ⌝ }
