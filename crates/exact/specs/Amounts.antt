@@ -1,4 +1,4 @@
--- Exact amounts: grams and ten-billionths of a gram, the scale of CO2's divisor, for every gas. Assumes nothing.
+-- Exact amounts in ten-billionths of a gram, the scale of CO2's divisor, for every gas. Assumes nothing.
 use mathlib.Core.List.{List, map}
 use mathlib.Core.Path.{_≡_}
 use Prim.Native.Nat.{ℕ, _+_, _*_, _-_, _/_, _^_, _≤_, _<_}
@@ -11,12 +11,15 @@ use Rattle.exact.specs.declared.Amount.{Amount}
 abbrev pub gram : ℕ
 gram = 10 ^ 10
 
+abbrev pub word : ℕ
+word = 2 ^ 32
+
 -- an amount in ten-billionths. Shut, for `omega` breaks off at numbers of more than 38 digits.
 unfoldable pub value : Amount → ℕ
-value a = a .whole * gram + a .part
+value a = a .high * word + a .low
 
 abbrev pub nothing : Amount
-nothing = record { whole = 0; part = 0 }
+nothing = record { high = 0; low = 0 }
 
 -- what one unit of a gas's N is in ten-billionths of a gram, by gas
 abbrev pub scales : List ℕ
@@ -31,23 +34,23 @@ pub record Ranged (q content factor : ℕ) : Type 0 where
   pub content-fits : content ≤ largestContent
   pub factor-fits : factor ≤ mostFactor
 
--- the grams that a line adds at most, for Q at most the ten-billionths of a gram
+-- the words that a line adds at most, with one that its lowest carries
 abbrev pub perLine : ℕ
-perLine = largestContent * mostFactor
+perLine = mostQuantity * largestContent * mostFactor / word + 1
 
--- so many more lines, and a rounding after them, keep the amount in 64 bits
+-- so many more lines keep the amount in 64 bits
 pub record Room (lines : ℕ) (a : Amount) : Type 0 where
-  pub part-fits : a .part < gram
-  pub whole-fits : a .whole + perLine * lines + 1 < 2 ^ 64
+  pub low-fits : a .low < word
+  pub high-fits : a .high + perLine * lines < 2 ^ 64
 
 -- r is a with n more
 pub record Added (a : Amount) (n : ℕ) (r : Amount) : Type 0 where
   pub is : value r ≡ value a + n
-  pub part-fits : r .part < gram
-  pub whole-fits : r .whole ≤ a .whole + perLine
+  pub low-fits : r .low < word
+  pub high-fits : r .high ≤ a .high + perLine
 
 -- r is what is left of a without b
 pub record Subtracted (a b r : Amount) : Type 0 where
   pub is : value r ≡ value a - value b
-  pub part-fits : r .part < gram
-  pub whole-fits : r .whole ≤ a .whole
+  pub low-fits : r .low < word
+  pub high-fits : r .high ≤ a .high

@@ -5,11 +5,19 @@ ghost use Prim.Native.Nat.{_+_, _*_, _≤_, _<_};
 ghost use lib.Dec.{ltb};
 ghost use lib.ListN.{getD};
 ghost use Rattle.meaning.specs.Masses.{warming, gasCount, mostFactors, mostFactor, rounded};
-ghost use Rattle.exact.specs.Amounts.{gram, value, scale, Ranged, Room, Added, Subtracted};
+ghost use Rattle.exact.specs.Amounts.{word, gram, value, scale, Ranged, Room, Added, Subtracted};
 ghost use Rattle.exact.specs.Equivalents.{withinLimit};
 
-// The ten-billionths of a gram in a gram.
+// The ten-billionths of a gram in a gram, and in half of one.
 const GRAM: u64 = 10000000000;
+
+const HALF: u64 = 5000000000;
+
+// Amounts are in words of 32 bits: what a line adds is parted by shifts, and only what a source comes to is divided.
+const WORD: u64 = 4294967296;
+
+// 10^10 is FIVES, which is 5^10, times 2^10.
+const FIVES: u64 = 9765625;
 
 pub const GASES: usize = 3;
 
@@ -19,10 +27,10 @@ const WARMING: [u64; GASES] = [1, 25, 298];
 // "at most 10^15 g a source"
 const LIMIT: u64 = 1000000000000000;
 
-// Grams and ten-billionths of a gram.
+// Ten-billionths of a gram, in words.
 pub struct Amount {
-    pub whole: u64,
-    pub part: u64,
+    pub high: u64,
+    pub low: u64,
 }
 
 // What one unit of a gas's exact sum is in ten-billionths of a gram.
@@ -37,12 +45,12 @@ fn scale_of(gas: usize) -> u64
     }
 }
 
-// A line's factor in ten-billionths of a gram, so that the amounts of all gases are on one scale.
-pub fn scaled(gas: usize, factor: u64) -> u64
+// A line's factor in ten-billionths of a gram, so that the amounts of all gases are on one scale. It is a word, so that its products are of words.
+pub fn scaled(gas: usize, factor: u64) -> u32
     requires { ⌜ (gas < gasCount) × (factor ≤ getD mostFactors gas 0) ⌝ }
     ensures { λ r. ⌜ (r ≡ factor * scale gas) × (r ≤ mostFactor) ⌝ }
 {
-    factor * scale_of(gas)
+    (factor * scale_of(gas)) as u32
 }
 
 // A product of numbers that are small enough for 64 bits, with a bound that its callers count on.
@@ -53,58 +61,58 @@ fn product(a: u64, b: u64) -> u64
     a * b
 }
 
-// The amount with what a line comes to. Q times its content is parted by the gram before it is multiplied on, so that no product
-// leaves 64 bits.
-pub fn add(a: Amount, q: u64, content: u64, factor: u64) -> Amount
+// The amount with what a line comes to. Q times its content is parted into words before it is multiplied on, so that no product leaves
+// 64 bits.
+pub fn add(a: Amount, q: u64, content: u64, factor: u32) -> Amount
     requires { ⌜ Room 1 a × Ranged q content factor ⌝ }
     ensures { λ r. ⌜ Added a (q * content * factor) r ⌝ }
 {
     let p = product(q, content);
-    let high = product(factor, p / GRAM);
-    let low = product(p % GRAM, factor) + a.part;
+    let high = product(p / WORD, factor as u64);
+    let low = product(p % WORD, factor as u64) + a.low;
     Amount {
-        whole: high + low / GRAM + a.whole,
-        part: low % GRAM,
+        high: high + low / WORD + a.high,
+        low: low % WORD,
     }
 }
 
 // Whether a is less than b, as where a source's sum is below zero.
 pub fn below(a: Amount, b: Amount) -> bool
-    requires { ⌜ (a .part < gram) × (b .part < gram) ⌝ }
+    requires { ⌜ (a .low < word) × (b .low < word) ⌝ }
     ensures { λ r. ⌜ r ≡ ltb (value a) (value b) ⌝ }
 {
-    if a.whole == b.whole {
-        return a.part < b.part;
+    if a.high == b.high {
+        return a.low < b.low;
     }
-    a.whole < b.whole
+    a.high < b.high
 }
 
 // What is left of a without b.
 pub fn subtract(a: Amount, b: Amount) -> Amount
-    requires { ⌜ (a .part < gram) × (b .part < gram) × (ltb (value a) (value b) ≡ false) ⌝ }
+    requires { ⌜ (a .low < word) × (b .low < word) × (ltb (value a) (value b) ≡ false) ⌝ }
     ensures { λ r. ⌜ Subtracted a b r ⌝ }
 {
-    if a.part < b.part {
+    if a.low < b.low {
         return Amount {
-            whole: a.whole - b.whole - 1,
-            part: a.part + GRAM - b.part,
+            high: a.high - b.high - 1,
+            low: a.low + WORD - b.low,
         };
     }
     Amount {
-        whole: a.whole - b.whole,
-        part: a.part - b.part,
+        high: a.high - b.high,
+        low: a.low - b.low,
     }
 }
 
-// "nearest, an exact half upward"
+// "nearest, an exact half upward". A word of ten-billionths is less than half a gram, and no source has all three gases.
 pub fn round(a: Amount) -> u64
     requires { ⌜ Room 0 a ⌝ }
     ensures { λ r. ⌜ r ≡ rounded (value a) gram ⌝ }
 {
-    if a.part < GRAM / 2 {
-        return a.whole;
+    if a.high == 0 {
+        return 0;
     }
-    a.whole + 1
+    a.high / FIVES * 4194304 + (a.high % FIVES * WORD + a.low + HALF) / GRAM
 }
 
 // The equivalent of a source, or that it is above the limit.

@@ -47,7 +47,7 @@ pub const FIGURES: usize = GASES + 1;
 
 const LINE_LENGTH: usize = 20;
 
-const NOTHING: Amount = Amount { whole: 0, part: 0 };
+const NOTHING: Amount = Amount { high: 0, low: 0 };
 
 // A line of 20 bytes at a place: "kind (1), unit (1), code (2), A (4), B (4), quantity Q (8)"
 fn line_at(register: &[u8], at: usize) -> RawLine

@@ -31,16 +31,14 @@ pub fn refuse_if(wrong: bool, number: u32, place: u64, later: Verdict) -> Verdic
     later
 }
 
-// A header field of 4 bytes that has to be the number due there.
-fn test_field(register: &[u8], at: usize, due: usize, later: Verdict) -> Verdict
-    requires { ⌜ at + 4 ≤ length (now register) ⌝ }
-    ensures { λ r. ⌜ r ≡ cond (not (eqb (numberAt 4 (now (register .entry)) at) due)) (Refuses 2 at) later ⌝ }
+// "2, the place of the first wrong field"
+fn wrong_at(place: u64) -> Verdict
+    ensures { λ r. ⌜ r ≡ Refuses 2 place ⌝ }
 {
-    let stated = fields::u32_at(register, at) as usize;
-    refuse_if(stated != due, 2, at as u64, later)
+    Verdict::Refuses { number: 2, place }
 }
 
-// The offsets and the whole length, which go by n sources, m lines and t name bytes.
+// The offsets and the whole length, which go by n sources, m lines and t name bytes. Each field is read once those before it are right.
 fn test_offsets(register: &[u8], n: usize, m: usize, t: usize) -> Verdict
     requires { ⌜ Counted (now register) n m t ⌝ }
     ensures { λ r. ⌜ r ≡ firstRefusal (drop 6 (headerTests (now (register .entry)))) ⌝ }
@@ -48,12 +46,21 @@ fn test_offsets(register: &[u8], n: usize, m: usize, t: usize) -> Verdict
     let lines = SOURCES + SOURCE * n;
     let names = lines + LINE * m;
     let whole = names + t;
+    let sources_wrong = fields::u32_at(register, 16) as usize != SOURCES;
+    if sources_wrong {
+        return wrong_at(16);
+    }
+    let lines_wrong = fields::u32_at(register, 20) as usize != lines;
+    if lines_wrong {
+        return wrong_at(20);
+    }
+    let names_wrong = fields::u32_at(register, 24) as usize != names;
+    if names_wrong {
+        return wrong_at(24);
+    }
     let stated = fields::u32_at(register, 28) as usize;
-    let lent = register.len();
-    let fourth = refuse_if((stated != whole) | (lent != whole), 2, 28, Verdict::Passes);
-    let third = test_field(register, 24, names, fourth);
-    let second = test_field(register, 20, lines, third);
-    test_field(register, 16, SOURCES, second)
+    let length_wrong = (stated != whole) | (register.len() != whole);
+    refuse_if(length_wrong, 2, 28, Verdict::Passes)
 }
 
 fn test_counts(register: &[u8]) -> Verdict
@@ -61,12 +68,21 @@ fn test_counts(register: &[u8]) -> Verdict
     ensures { λ r. ⌜ r ≡ firstRefusal (drop 3 (headerTests (now (register .entry)))) ⌝ }
 {
     let n = fields::u16_at(register, 8);
+    let sources_wrong = MOST < n;
+    if sources_wrong {
+        return wrong_at(8);
+    }
     let m = fields::u16_at(register, 10);
+    let lines_wrong = 1024 < m;
+    if lines_wrong {
+        return wrong_at(10);
+    }
     let t = fields::u32_at(register, 12);
-    let fourth = test_offsets(register, n as usize, m as usize, t as usize);
-    let third = refuse_if(16384 < t, 2, 12, fourth);
-    let second = refuse_if(1024 < m, 2, 10, third);
-    refuse_if(MOST < n, 2, 8, second)
+    let names_wrong = 16384 < t;
+    if names_wrong {
+        return wrong_at(12);
+    }
+    test_offsets(register, n as usize, m as usize, t as usize)
 }
 
 // "2 by field"
@@ -74,11 +90,18 @@ pub fn test_header(register: &[u8]) -> Verdict
     requires { ⌜ sourcesAt ≤ length (now register) ⌝ }
     ensures { λ r. ⌜ r ≡ firstRefusal (headerTests (now (register .entry))) ⌝ }
 {
-    let tagged = fields::starts_with(register, b"GREG");
-    let layout = fields::u16_at(register, 4);
+    let untagged = !fields::starts_with(register, b"GREG");
+    if untagged {
+        return wrong_at(0);
+    }
+    let layout_wrong = fields::u16_at(register, 4) != 1;
+    if layout_wrong {
+        return wrong_at(4);
+    }
     let year = fields::u16_at(register, 6);
-    let fourth = test_counts(register);
-    let third = refuse_if(!((1990 <= year) & (year <= 2100)), 2, 6, fourth);
-    let second = refuse_if(layout != 1, 2, 4, third);
-    refuse_if(!tagged, 2, 0, second)
+    let year_wrong = !((1990 <= year) & (year <= 2100));
+    if year_wrong {
+        return wrong_at(6);
+    }
+    test_counts(register)
 }

@@ -6,4 +6,4 @@ use Rattle.exact.proofs.round.Tie as tie
 
 pub round-spec : {M : Type 1} → statement M
 unfolding rounded value
-round-spec = tie.close (tie.spec (omega arith) (omega arith) (omega arith))
+round-spec = tie.close (tie.spec (omega arith) (omega arith) (omega arith) (omega arith) (omega arith) (omega arith) (omega arith))

@@ -11,4 +11,5 @@ scaled-spec =
     (tie.spec
     (search needs)
     (λ c. rw (c .scale-of .ensures) (omega (arith, factor-scaled _ (c .before .pre .0) _ (c .before .pre .1))))
+    (λ c. rw (c .scale-of .ensures) (omega (arith, factor-scaled _ (c .before .pre .0) _ (c .before .pre .1))))
     (λ c. rw (c .scale-of .ensures) (refl, factor-scaled _ (c .before .pre .0) _ (c .before .pre .1))))

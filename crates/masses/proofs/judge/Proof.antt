@@ -9,9 +9,9 @@ judge-spec =
     tie.close
     (tie.spec
     (λ c. search needs)
-    (λ c κs. let p = c .before .before .before .pre in (p .added 0 (omega arith) .part-fits, p .taken .part-fits))
+    (λ c κs. let p = c .before .before .before .pre in (p .added 0 (omega arith) .low-fits, p .taken .low-fits))
     (λ c. judged-below (omega arith) (cc))
-    (λ c κs. let p = c .before .before .before .before .before .pre in (p .added 0 (omega arith) .part-fits, p .taken .part-fits, cc))
+    (λ c κs. let p = c .before .before .before .before .before .pre in (p .added 0 (omega arith) .low-fits, p .taken .low-fits, cc))
     (λ c. search needs)
     (λ c κs. net-roomy (c .before .before .before .before .before .before .pre) (c .subtract .ensures))
     (λ c. search needs)

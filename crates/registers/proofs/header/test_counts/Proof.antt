@@ -9,9 +9,12 @@ test-counts-spec =
     (tie.spec
     (omega arith)
     (omega arith)
+    (λ c. search hearing)
     (omega arith)
     (omega arith)
+    (λ c. search hearing)
     (omega arith)
     (omega arith)
+    (λ c. search hearing)
     (omega arith)
     (λ c. search hearing))
