@@ -24,9 +24,9 @@ use Rattle.registers.proofs.Tested.{passed-headed}
 use Rattle.registers.proofs.Passed.{length-sortedKeys, passed-parts, passed-key}
 use Rattle.stating.specs.Parts.{statedEntry, statedFront, statedHeader}
 use Rattle.stating.proofs.Writing.{length-figureBytes, entry-stated, header-stated}
-use Rattle.issuing.specs.Ready.{Ready, entryOfKey, total, totalsOf}
+use Rattle.issuing.specs.Ready.{Ready, entryOfKey, totalsOf}
 use Rattle.issuing.proofs.Keyed.{keys-in-order}
-use Rattle.issuing.proofs.Summing.{summable, totals-are}
+use Rattle.issuing.proofs.Summing.{length-totalsOf, summable, totals-are}
 
 -- a key is that of a source of the register
 record KeyOf (b : List ℕ) (key : ℕ) : Type 0 where
@@ -129,10 +129,6 @@ module _ {b keys stored : List ℕ} (r : Ready b keys stored) where
         rw (keys-in-order b (r .passes)) at w
 
 pub ruleset issuing = (needs, count-there, issuing-none, issuing-source, issuing-room, issuing-more, issuing-all)
-
-length-totalsOf : (stored : List ℕ) (n : ℕ) → length (totalsOf stored n) ≡ figureCount
-unfolding totalsOf
-length-totalsOf stored n = length-map (countUp 0 figureCount) (total stored n) ∙ length-countUp 0 figureCount
 
 length-entriesFor : (b : List ℕ) → length (entriesFor (sourcesOf b)) ≡ sourceCount b
 unfolding sourcesOf

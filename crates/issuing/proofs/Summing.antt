@@ -1,17 +1,20 @@
 -- The figures of all sources added up, and that they are the totals of the report. Assumes nothing.
-use mathlib.Core.List.{List, map, map-map}
-use mathlib.Core.Path.{_≡_, sym, ap, _∙_}
-use Prim.Native.Nat.{ℕ, suc, _+_, _*_, _-_, _≤_, _<_}
-use native.Mathlib.Nat.{add-assoc, add-zero, zero-add, sub-zero}
+use mathlib.Core.List.{List, [], _∷_, map, map-map}
+use mathlib.Core.Path.{_≡_, refl, sym, ap, _∙_}
+use Prim.Native.Nat.{ℕ, zero, suc, _+_, _*_, _≤_, _<_}
+use native.Mathlib.Nat.{add-zero, zero-add}
+use native.Mathlib.Numerals.{add-one}
 use native.Mathlib.Omega.{arith}
 use mir.Syntax.{w64}
 use mir.Val.{Fits}
 use borrow.Author.Needs.{needs}
-use lib.ListN.{length, getD, drop, set}
+use lib.ListN.{length, getD, drop, replicate, set}
 use lib.Seq.{getD-take, getD-drop}
 use Rattle.basis.specs.Lists.{sum, countUp}
 use Rattle.basis.proofs.ByIndex.{same-by-index}
-use Rattle.basis.proofs.Filling.{Filled, filled-none, filled-more, filled-all}
+use Rattle.basis.proofs.Counting.{counted-append, length-counted, at-counted}
+use Rattle.basis.proofs.Filling.{Filled, filled-none, filled-now, filled-more, filled-all}
+use Rattle.basis.proofs.Lists.{sum-append}
 use Rattle.meaning.specs.Masses.{gasCount, limit}
 use Rattle.meaning.specs.Register.{sourceCount, sourceAt, sourcesOf}
 use Rattle.meaning.specs.Report.{entryOf, figures, figureCount, figure, totals}
@@ -23,56 +26,92 @@ use Rattle.registers.proofs.Tested.{passed-headed}
 use Rattle.fields.specs.Fields.{Field}
 use Rattle.issuing.specs.Ready.{Ready, figureOf, total, totalsOf, Summable}
 
--- those before i are added, and those that are left make the total
-pub record Summing (figures : List ℕ) (n k added i : ℕ) : Type 0 where
-  pub low : i ≤ n
-  pub rest : added + sum (map (figureOf figures k) (countUp i (n - i))) ≡ total figures n k
-  pub small : added ≤ limit * i
+-- one source more
+total-more : (figures : List ℕ) (i k : ℕ) → total figures (i + 1) k ≡ total figures i k + figureOf figures k i
+unfolding total sum countUp
+total-more figures i k =
+    ap sum (counted-append (figureOf figures k) 0 i 1)
+    ∙ sum-append (map (figureOf figures k) (countUp 0 i)) (figureOf figures k (0 + i) ∷ [])
+    ∙ rw (zero-add i, add-zero (figureOf figures k i))
 
-pub summing-none : (figures : List ℕ) (n k : ℕ) → Summing figures n k 0 0
-unfolding total
-summing-none figures n k = record { low = omega arith; rest = rw (sub-zero n) (zero-add _); small = omega arith }
+total-none : (stored : List ℕ) (k : ℕ) → total stored 0 k ≡ 0
+unfolding total sum countUp
+total-none stored k = refl
 
-module _ {figures : List ℕ} {n k added i : ℕ} (r : Summing figures n k added i) where
-  module _ (h : Summable figures n) (l : i < n) (m : k < figureCount) where
-    pub summing-fits : Fits w64 (added + getD figures (figureCount * i + k) 0)
-    summing-fits = omega (arith, r .small, h .small i k l m, h .few)
+-- no total of so few sources leaves 64 bits
+total-small : (stored : List ℕ) (n i k : ℕ) → Summable stored n → i ≤ n → k < figureCount → total stored i k ≤ limit * i
+total-small stored n zero k h l m = rw (total-none stored k) (omega arith)
+total-small stored n (suc i) k h l m =
+    rw (← add-one i, total-more stored i k) (omega (arith, total-small stored n i k h (omega arith) m, h .small i k (omega arith) m))
 
-    pub summing-more : Summing figures n k (added + getD figures (figureCount * i + k) 0) (i + 1)
-    unfolding sum countUp
-    summing-more =
-        let q : n - i ≡ suc (n - (i + 1)) = omega arith in
+pub length-totalsOf : (figures : List ℕ) (n : ℕ) → length (totalsOf figures n) ≡ figureCount
+unfolding totalsOf
+length-totalsOf figures n = length-counted (total figures n) 0 figureCount
+
+-- the totals of no source, and those of all sources from those of one less
+pub totals-none : (figures : List ℕ) → replicate figureCount 0 ≡ totalsOf figures 0
+unfolding totalsOf total sum countUp
+totals-none figures = refl
+
+pub summable-less : {figures : List ℕ} {n i : ℕ} → Summable figures n → i < n → Summable figures (i + 1)
+summable-less h l = record { few = omega (arith, h .few); long = omega (arith, h .long); small = λ j k m. h .small j k (omega arith) }
+
+-- k totals have source i added
+pub record Adding (figures : List ℕ) (i : ℕ) (to₀ to : List ℕ) (k : ℕ) : Type 0 where
+  pub before : to₀ ≡ totalsOf figures i
+  pub filled : Filled (total figures (i + 1)) to₀ to k
+
+pub adding-none : {figures to : List ℕ} {i : ℕ} → to ≡ totalsOf figures i → Adding figures i to to 0
+adding-none {figures} {to} {i} e = record { before = e; filled = filled-none (total figures (i + 1)) to }
+
+module _ {figures to₀ to : List ℕ} {i k : ℕ} (r : Adding figures i to₀ to k) where
+  size : length to ≡ figureCount
+  size = r .filled .kept ∙ ap length (r .before) ∙ length-totalsOf figures i
+
+  pub adding-there : k < figureCount → k < length to
+  adding-there l = omega (arith, size)
+
+  module _ (h : Summable figures (i + 1)) (l : k < figureCount) where
+    is : getD to k 0 ≡ total figures i k
+    unfolding totalsOf
+    is = filled-now (r .filled) ∙ ap (λ (l : List ℕ). getD l k 0) (r .before) ∙ at-counted (total figures i) 0 figureCount k l
+
+    pub adding-fits : Fits w64 (getD to k 0 + getD figures (figureCount * i + k) 0)
+    adding-fits = omega (arith, is, total-small figures (i + 1) i k h (omega arith) l, h .small i k (omega arith) l, h .few)
+
+    pub adding-more : Adding figures i to₀ (set to k (getD to k 0 + getD figures (figureCount * i + k) 0)) (k + 1)
+    adding-more =
         record {
-          low = omega arith;
-          rest = add-assoc added (figureOf figures k i) _ ∙ (rw q at (r .rest));
-          small = omega (arith, r .small, h .small i k l m);
+          before = r .before;
+          filled = filled-more (r .filled) (adding-there l) (ap (λ (m : ℕ). m + figureOf figures k i) is ∙ sym (total-more figures i k));
         }
 
-  pub summing-all : n ≤ i → added ≡ total figures n k
-  unfolding sum countUp
-  summing-all l =
-      let z : n - i ≡ 0 = omega arith in
-      sym (add-zero added) ∙ (rw z at (r .rest))
-
-pub ruleset summing = (needs, summing-none, summing-fits, summing-more, summing-all)
-
--- k totals stand
-pub record Totalling (figures : List ℕ) (n : ℕ) (to₀ to : List ℕ) (k : ℕ) : Type 0 where
-  pub size : length to₀ ≡ figureCount
-  pub filled : Filled (total figures n) to₀ to k
-
-pub totalling-none : (figures : List ℕ) (n : ℕ) (to : List ℕ) → length to ≡ figureCount → Totalling figures n to to 0
-totalling-none figures n to e = record { size = e; filled = filled-none (total figures n) to }
-
-module _ {figures : List ℕ} {n : ℕ} {to₀ to : List ℕ} {k : ℕ} (r : Totalling figures n to₀ to k) where
-  pub totalling-more : {v : ℕ} → k < figureCount → v ≡ total figures n k → Totalling figures n to₀ (set to k v) (k + 1)
-  totalling-more l e = record { size = r .size; filled = filled-more (r .filled) (omega (arith, r .size, r .filled .kept)) e }
-
-  pub totalling-all : figureCount ≤ k → to ≡ totalsOf figures n
+  pub adding-all : figureCount ≤ k → to ≡ totalsOf figures (i + 1)
   unfolding totalsOf
-  totalling-all l = filled-all (r .filled) (omega (arith, r .size, r .filled .kept)) ∙ ap (λ (m : ℕ). map (total figures n) (countUp 0 m)) (r .size)
+  adding-all l =
+      filled-all (r .filled) (omega (arith, size))
+      ∙ ap (λ (m : ℕ). map (total figures (i + 1)) (countUp 0 m)) (ap length (r .before) ∙ length-totalsOf figures i)
 
-pub ruleset totalling = (needs, totalling-none, totalling-more, totalling-all)
+pub ruleset adding = (needs, adding-none, adding-there, adding-fits, adding-more, adding-all)
+
+-- the totals of i sources
+pub record Totalled (figures : List ℕ) (n : ℕ) (to : List ℕ) (i : ℕ) : Type 0 where
+  pub low : i ≤ n
+  pub is : to ≡ totalsOf figures i
+
+pub totalled-none : (figures to : List ℕ) (n : ℕ) → to ≡ replicate figureCount 0 → Totalled figures n to 0
+totalled-none figures to n e = record { low = omega arith; is = e ∙ totals-none figures }
+
+pub totalled-each : {figures to : List ℕ} {n i : ℕ} → Totalled figures n to i → length to ≡ figureCount
+totalled-each {figures} {to} {n} {i} r = ap length (r .is) ∙ length-totalsOf figures i
+
+pub totalled-more : {figures more : List ℕ} {n i : ℕ} → i < n → more ≡ totalsOf figures (i + 1) → Totalled figures n more (i + 1)
+totalled-more l e = record { low = omega arith; is = e }
+
+pub totalled-all : {figures to : List ℕ} {n i : ℕ} → Totalled figures n to i → n ≤ i → to ≡ totalsOf figures n
+totalled-all {figures} r l = r .is ∙ ap (totalsOf figures) (omega (arith, r .low))
+
+pub ruleset totalling = (needs, summable-less, totalled-each, totalled-more, totalled-all)
 
 module _ {b keys stored : List ℕ} (r : Ready b keys stored) where
   -- the figures of a source, as they are stored

@@ -6,9 +6,9 @@ ghost use lib.ListN.{length, getD};
 ghost use Rattle.basis.specs.Bytes.{Written};
 ghost use Rattle.basis.specs.Lists.{joined};
 ghost use Rattle.meaning.specs.Register.{sourceCount, sourcesOf};
-ghost use Rattle.meaning.specs.Report.{figureCount, entriesAt, reportLength, entryBytes};
+ghost use Rattle.meaning.specs.Report.{entriesAt, reportLength, entryBytes};
 ghost use Rattle.meaning.specs.Calls.{entriesFor, calculatedReport};
-ghost use Rattle.issuing.specs.Ready.{Ready, Summable, total, totalsOf, entryOfKey};
+ghost use Rattle.issuing.specs.Ready.{Ready, Summable, totalsOf, entryOfKey};
 use reports::ENTRIES_AT;
 use reports::ENTRY_LENGTH;
 use reports::FIGURES;
@@ -23,18 +23,16 @@ const METHOD: usize = 4;
 // As many sources as a register may have: a key is a source's number times this, and its index.
 const MOST: u64 = 512;
 
-// One figure of n sources, added up.
-fn total_of(figures: &[u64], n: usize, k: usize) -> u64
-    requires { ⌜ Summable (now figures) n × (k < figureCount) ⌝ }
-    ensures { λ r. ⌜ r ≡ total (now (figures .entry)) n k ⌝ }
+// The figures of source i added to the totals of those before it.
+fn add_source(totals: &mut [u64], figures: &[u64], i: usize)
+    requires { ⌜ Summable (now figures) (i + 1) × (now totals ≡ totalsOf (now figures) i) ⌝ }
+    ensures { λ _. ⌜ now (totals .exit) ≡ totalsOf (now (figures .entry)) (i + 1) ⌝ }
 {
-    let mut sum: u64 = 0;
-    let mut i: usize = 0;
-    while i < n {
-        sum += figures[FIGURES * i + k];
-        i += 1;
+    let mut k: usize = 0;
+    while k < FIGURES {
+        totals[k] += figures[FIGURES * i + k];
+        k += 1;
     }
-    sum
 }
 
 // "the totals of CO2, CH4, N2O and CO2-equivalent": they do not go by the order of the sources.
@@ -43,10 +41,10 @@ fn totals_of(figures: &[u64], n: usize) -> [u64; FIGURES]
     ensures { λ r. ⌜ r ≡ totalsOf (now (figures .entry)) n ⌝ }
 {
     let mut totals = [0u64; FIGURES];
-    let mut k: usize = 0;
-    while k < FIGURES {
-        totals[k] = total_of(figures, n, k);
-        k += 1;
+    let mut i: usize = 0;
+    while i < n {
+        add_source(&mut totals, figures, i);
+        i += 1;
     }
     totals
 }

@@ -1,0 +1,32 @@
+use Prim.Native.Nat.{_-_}
+use Rattle.meaning.specs.Report.{figureCount}
+use Rattle.issuing.proofs.Summing.{Adding, adding}
+use Rattle.issuing.proofs.add_source.Statement.{statement}
+use Rattle.issuing.proofs.add_source.Tie as tie
+
+abbrev Inv-loop : tie.InvT-loop
+Inv-loop totals₀ figures i k₀ totals k = Adding figures i totals₀ totals k
+
+abbrev μ-loop : tie.MeasureT-loop
+μ-loop totals₀ figures i k₀ totals k = figureCount - k
+
+pub add-source-spec : {M : Type 1} → statement M
+add-source-spec =
+    tie.close
+    (tie.spec
+    Inv-loop
+    μ-loop
+    (λ c. search adding)
+    (λ c. search adding)
+    (λ c. search adding)
+    (λ c. search adding)
+    (λ c. search adding)
+    (λ c. search adding)
+    (λ c. search adding)
+    (λ c. search adding)
+    (λ c. search adding)
+    (λ c. search adding)
+    (λ c. search adding)
+    (λ c. search adding)
+    (λ c. search adding)
+    (λ c. search adding))
