@@ -129,7 +129,7 @@ fn write_lines(bytes: &[u8]) -> bool {
 // A number and the byte behind it.
 fn write_number(n: u64, after: u8) -> bool {
     let mut field = [0u8; 21];
-    let length = texts::number_field(n, after, &mut field);
+    let length = digits::number_field(n, after, &mut field);
     io::write_all(STDOUT_FILENO, &field[..length])
 }
 

@@ -7,9 +7,8 @@ use borrow.Author.Needs.{needs}
 use lib.ListN.{length, take, length-append}
 use Rattle.basis.specs.Bytes.{ascii, Written}
 use Rattle.basis.proofs.Bytes.{written-then}
-use Rattle.texts.specs.Digits.{Fronted, field}
-use Rattle.texts.proofs.Lines.{fronted}
-use Rattle.texts.proofs.Saying.{front-is}
+use Rattle.digits.specs.Digits.{Fronted, field}
+use Rattle.digits.proofs.Fields.{front-is, fronted}
 use Rattle.files.specs.declared.Made.{Made}
 use Rattle.files.specs.declared.Made.the-variants.{Open}
 use Rattle.files.specs.Files.{Front, Named, beside}

@@ -6,7 +6,7 @@ use Rattle.basis.specs.declared.Answer.{Answer}
 use Rattle.basis.specs.declared.Verdict.{Verdict}
 use Rattle.basis.specs.Answers.{Gives}
 use Rattle.meaning.specs.Calls.{written, calculationTests, calculatedReport, calculated, combinationTests, combinedReport, combined, removalTests, removedReport, removed}
-use Rattle.texts.proofs.Saying.{written-front}
+use Rattle.saying.proofs.Saying.{written-front}
 use Rattle.files.specs.Files.{Front}
 
 module _ {a : Answer} {left : List ℕ} where

@@ -4,7 +4,7 @@ use mathlib.Core.Path.{_≡_}
 use Prim.Native.Nat.{ℕ, _≤_}
 use lib.ListN.{length, take}
 use Rattle.basis.specs.Bytes.{ascii}
-use Rattle.texts.specs.Digits.{field}
+use Rattle.digits.specs.Digits.{field}
 use Rattle.files.specs.declared.Input.{Input}
 use Rattle.files.specs.declared.Input.the-variants.{Failed, Came}
 use Rattle.files.specs.declared.Made.{Made}

@@ -2,14 +2,14 @@
 ghost use mathlib.Core.Path.{_≡_};
 ghost use Prim.Native.Nat.{_+_, _≤_};
 ghost use lib.ListN.{length};
-ghost use Rattle.texts.specs.Digits.{Fronted};
+ghost use Rattle.digits.specs.Digits.{Fronted};
 ghost use Rattle.files.specs.Files.{Front, Within, Named, beside};
 ghost use Rattle.files.specs.Numerals.{numberIn};
 use basis::Answer;
 use libc::PATH_MAX;
 use libc::STDERR_FILENO;
 use libc::STDOUT_FILENO;
-use texts::LINE_ROOM;
+use saying::LINE_ROOM;
 
 // One byte more than the longest register, 32 + 16 * 512 + 20 * 1024 + 16384: so much of a longer file is answered as the whole would be.
 pub const REGISTER_ROOM: usize = 45089;
@@ -189,7 +189,7 @@ fn put_beside(path: &[u8], number: u64, name: &mut [u8]) -> usize
     ensures { λ r. ⌜ Fronted (now (name .entry)) (beside (now (path .entry)) number) (now (name .exit)) r ⌝ }
 {
     let mut field = [0u8; 21];
-    let n = texts::number_field(number, b'~', &mut field);
+    let n = digits::number_field(number, b'~', &mut field);
     let at = path.len();
     fields::put_bytes(name, 0, path);
     fields::put_bytes(name, at, b".new-");
@@ -281,6 +281,6 @@ pub fn settle(answer: Answer, report: &[u8], i: usize)
         }
     }
     let mut line = [0u8; LINE_ROOM];
-    let n = texts::answer_line(answer, &mut line);
+    let n = saying::answer_line(answer, &mut line);
     say(&line[..n]);
 }

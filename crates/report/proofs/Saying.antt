@@ -8,9 +8,9 @@ use Rattle.basis.specs.declared.Answer.{Answer}
 use Rattle.basis.specs.Answers.{Outcome, Gives}
 use Rattle.meaning.specs.Text.{refusedLine}
 use Rattle.meaning.specs.Calls.{calculationTests, calculatedReport, calculated}
-use Rattle.texts.specs.Digits.{Fronted}
-use Rattle.texts.specs.Saying.{front, said, textOutput}
-use Rattle.texts.proofs.Saying.{written-front, said-made, said-refused}
+use Rattle.digits.specs.Digits.{Fronted}
+use Rattle.saying.specs.Saying.{front, said, textOutput}
+use Rattle.saying.proofs.Saying.{written-front, said-made, said-refused}
 use Rattle.files.proofs.Longer.{calculated-same}
 use Rattle.report.specs.Output.{output}
 

@@ -3,7 +3,7 @@ use mathlib.Core.List.{List}
 use Prim.Native.Nat.{ℕ}
 use lib.ListN.{replicate}
 use Rattle.meaning.specs.Calls.{calculated}
-use Rattle.texts.specs.Saying.{front, said, textOutput}
+use Rattle.saying.specs.Saying.{front, said, textOutput}
 
 -- the text of its report, which has at most 20,536 bytes, or the refusal
 unfoldable pub output : List ℕ → List ℕ → List ℕ

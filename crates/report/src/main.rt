@@ -2,7 +2,7 @@
 // of a refusal.
 ghost use Prim.Native.Nat.{_≤_};
 ghost use lib.ListN.{length};
-ghost use Rattle.texts.specs.Digits.{Fronted};
+ghost use Rattle.digits.specs.Digits.{Fronted};
 ghost use Rattle.report.specs.Output.{output as Output·output};
 use files::Input;
 use files::REGISTER_ROOM;
@@ -20,9 +20,9 @@ fn put_output(register: &[u8], output: &mut [u8]) -> usize
     let number = answer.number;
     if number == 0 {
         let n = answer.length as usize;
-        return texts::put_text_or_refusal(&report[..n], output);
+        return saying::put_text_or_refusal(&report[..n], output);
     }
-    texts::put_refusal(number, answer.place, output)
+    saying::put_refusal(number, answer.place, output)
 }
 
 fn answer(register: &[u8]) {

@@ -5,7 +5,7 @@ use texts::TEXT_ROOM;
 
 fn show(report: &[u8]) {
     let mut output = [0u8; TEXT_ROOM];
-    let n = texts::put_text_or_refusal(report, &mut output);
+    let n = saying::put_text_or_refusal(report, &mut output);
     files::say(&output[..n]);
 }
 

@@ -20,9 +20,9 @@ use Rattle.fields.specs.Fields.{Field}
 use Rattle.reports.specs.Figures.{figureAt, figuresAt}
 use Rattle.reports.specs.Stated.{Readable}
 use Rattle.reports.proofs.Entries.{figures-drop}
-use Rattle.texts.specs.Digits.{Counted}
+use Rattle.digits.specs.Digits.{Counted}
 use Rattle.texts.specs.Rows.{Measured, headNumbers, entryNumbers}
-use Rattle.texts.proofs.Counts.{count-one}
+use Rattle.digits.proofs.Counts.{count-one}
 
 -- the bytes of fields, each with the byte behind it
 unfoldable pub spans : List ℕ → ℕ

@@ -23,11 +23,11 @@ use Rattle.meaning.proofs.Reports.{formed, count-is, length-masses, length-figu
 use Rattle.fields.specs.Fields.{Field}
 use Rattle.reports.specs.Figures.{figuresAt}
 use Rattle.reports.specs.Stated.{Readable}
-use Rattle.texts.specs.Digits.{field, pair, Ends, Put, Placed}
-use Rattle.texts.proofs.Counts.{some-digit, decimal-many}
-use Rattle.texts.proofs.Digits.{put-none, put-before}
+use Rattle.digits.specs.Digits.{field, pair, Ends, Put, Placed}
+use Rattle.digits.proofs.Counts.{some-digit, decimal-many}
+use Rattle.digits.proofs.Digits.{put-none, put-before}
 use Rattle.texts.specs.Rows.{Measured, headNumbers, entryNumbers, frontFields, entryLine, entryLines, textOf}
-use Rattle.texts.proofs.Lines.{length-field, second-room, first-room}
+use Rattle.digits.proofs.Fields.{length-field, second-room, first-room}
 use Rattle.texts.proofs.Rows.{totals-are, entry-read, method-read}
 use Rattle.texts.proofs.Rows.{length-figures as figures-length}
 

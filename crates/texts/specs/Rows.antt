@@ -6,7 +6,7 @@ use lib.ListN.{length}
 use Rattle.basis.specs.Lists.{joined}
 use Rattle.meaning.specs.Report.{Entry, figures, totals, reportYear, entryAt, entryIn, entriesOf}
 use Rattle.meaning.specs.Text.{textLine, reportText}
-use Rattle.texts.specs.Digits.{pair}
+use Rattle.digits.specs.Digits.{pair}
 
 -- "year, count and the four totals"
 unfoldable pub headNumbers : List ℕ → List ℕ
