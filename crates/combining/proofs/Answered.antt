@@ -3,6 +3,8 @@ use mathlib.Core.Bool.{Bool, true, false, not}
 use mathlib.Core.List.{List, map}
 use mathlib.Core.Path.{_≡_, refl, sym, ap, _∙_}
 use Prim.Native.Nat.{ℕ, _+_, _≤_, _<_}
+use native.Mathlib.Decide.{decLt}
+use native.Mathlib.Omega.{arith}
 use borrow.Author.Needs.{needs}
 use borrow.Author.Tests.{eq-eqb, ne-eqb, lt-ltb, le-ltb, ltb-false, not-false}
 use lib.Dec.{ltb}
@@ -12,18 +14,20 @@ use Rattle.basis.specs.declared.Verdict.the-variants.{Passes, Refuses}
 use Rattle.basis.specs.Answers.{firstRefusal, Gives}
 use Rattle.basis.specs.Bytes.{Written}
 use Rattle.basis.specs.First.{first}
+use Rattle.basis.specs.Lists.{Each}
 use Rattle.basis.proofs.Answers.{passed-then, refused-then, each-passes, passed-append, passed-if}
+use Rattle.basis.proofs.Lists.{each-at}
 use Rattle.meaning.specs.Register.{mostSources}
 use Rattle.meaning.specs.Report.{reportLength, reportYear, entryCount, entriesOf, wellFormed}
 use Rattle.meaning.specs.Calls.{formTest, sharedAt, sharedTest, combinationTests, bothEntries, combinedReport, combined}
 use Rattle.meaning.proofs.Calls.{refused-gives, short-gives, made-gives}
+use Rattle.meaning.proofs.Lengths.{length-report}
 use Rattle.reports.specs.Stated.{Readable}
 use Rattle.reports.proofs.Judged.{readable}
-use Rattle.combining.specs.Entries.{formTests, entryTests, sharedNumber, Combinable}
-use Rattle.combining.proofs.Apart.{read-within, read-past}
-use Rattle.combining.proofs.Merged.{massed-both, length-both}
-use Rattle.combining.proofs.Shared.{positive-numbers}
-use Rattle.meaning.proofs.Lengths.{length-report}
+use Rattle.merging.specs.Entries.{sharedNumber, Combinable}
+use Rattle.merging.proofs.Shared.{positive-numbers}
+use Rattle.merging.proofs.Merged.{massed-both, length-both}
+use Rattle.combining.specs.Tests.{formTests, entryTests}
 
 -- 9, of the one and of the other
 module _ (one other : List ℕ) {f : Bool} (e : f ≡ wellFormed one) where
@@ -41,6 +45,21 @@ module _ (one other : List ℕ) {f : Bool} (e : f ≡ wellFormed one) where
     well-formed u = rw (← e, t, ← d, u)
 
 pub ruleset forming = (needs, first-malformed, second-malformed, well-formed)
+
+-- a number above 0 is read within a list, and within a list of such numbers no other is read
+read-within : (ns : List ℕ) (i : ℕ) → 0 < getD ns i 0 → i < length ns
+read-within ns i l = by (decLt i (length ns))
+  where
+    by : Dec (i < length ns) → i < length ns
+    by (yes q) = q
+    by (no q) = absurd (omega (arith, List·getD-eq-default ns 0 {n = i} (omega arith)))
+
+read-past : (ns : List ℕ) (i : ℕ) → Each (λ n. 0 < n) ns → getD ns i 0 ≤ 0 → length ns ≤ i
+read-past ns i p l = by (decLt i (length ns))
+  where
+    by : Dec (i < length ns) → length ns ≤ i
+    by (yes q) = absurd (omega (arith, each-at (λ n. 0 < n) ns 0 p i q))
+    by (no q) = omega arith
 
 -- 11
 shared-refused : (one other : List ℕ) → 0 < sharedNumber one other → sharedTest one other ≡ Refuses 11 (sharedNumber one other)

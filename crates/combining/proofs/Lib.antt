@@ -1,6 +1,1 @@
-pub mod Order
-pub mod Apart
-pub mod Rows
-pub mod Shared
-pub mod Merged
 pub mod Answered

@@ -1,21 +1,17 @@
 // Combination of two reports: it tests its input, and writes only where every test has passed.
-mod entries;
-mod merging;
-
 ghost use mathlib.Core.Path.{_≡_};
 ghost use Rattle.basis.specs.declared.Verdict.the-variants.{Passes};
 ghost use Rattle.basis.specs.Answers.{firstRefusal, Gives};
 ghost use Rattle.meaning.specs.Calls.{combinationTests, combined};
 ghost use Rattle.reports.specs.Stated.{Readable};
-ghost use Rattle.combining.specs.Entries.{formTests, entryTests, Combinable};
+ghost use Rattle.merging.specs.Entries.{Combinable};
+ghost use Rattle.combining.specs.Tests.{formTests, entryTests};
 use basis::Answer;
 use basis::Verdict;
-pub use entries::TOTALS_AT;
-pub use entries::entry_count;
-pub use entries::entry_number;
-pub use entries::year_of;
+use merging::entry_count;
 use merging::put_both;
 use merging::shared_number;
+use merging::year_of;
 use reports::ENTRIES_AT;
 use reports::ENTRY_LENGTH;
 

@@ -12,8 +12,8 @@ use Rattle.meaning.proofs.Reports.{formed, totals-by}
 use Rattle.reports.specs.Figures.{figureAt, figuresAt}
 use Rattle.reports.specs.Stated.{Readable}
 use Rattle.reports.proofs.Entries.{figure-stands}
-use Rattle.combining.specs.Entries.{entriesFrom, rows}
-use Rattle.combining.proofs.Rows.{entry, from-more, from-all, length-stated, stated-is}
+use Rattle.merging.specs.Entries.{entriesFrom, rows}
+use Rattle.merging.proofs.Rows.{entry, from-more, from-all, length-stated, stated-is}
 use Rattle.removing.specs.Others.{otherEntries, takenAt, Takeable}
 
 module _ (b : List ℕ) where

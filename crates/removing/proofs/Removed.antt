@@ -27,11 +27,11 @@ use Rattle.reports.specs.Stated.{Readable}
 use Rattle.stating.specs.Parts.{statedHeader}
 use Rattle.basis.proofs.Filling.{Filled, filled-none, filled-now, filled-more, filled-all}
 use Rattle.stating.proofs.Writing.{entry-stands}
-use Rattle.combining.specs.Entries.{entriesFrom, rows, entryNumber}
+use Rattle.merging.specs.Entries.{entriesFrom, rows, entryNumber}
 use Rattle.removing.specs.Others.{numberedAt, otherEntries, takenAt, Takeable}
 use Rattle.meaning.proofs.Lengths.{Massed}
 use Rattle.removing.proofs.Between.{any-none, any-between, without-between}
-use Rattle.combining.proofs.Rows.{entry, from-all, from-each, from-massed, length-from, length-all, header-made, all-above}
+use Rattle.merging.proofs.Rows.{entry, from-all, from-each, from-massed, length-from, length-all, header-made, all-above}
 use Rattle.removing.proofs.Parted.{rows-both, around}
 
 -- numbers ascend

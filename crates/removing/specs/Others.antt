@@ -7,7 +7,7 @@ use lib.ListN.{length, getD}
 use Rattle.basis.specs.Lists.{countUp}
 use Rattle.meaning.specs.Report.{Entry, entryCount}
 use Rattle.reports.specs.Figures.{figureAt}
-use Rattle.combining.specs.Entries.{entriesFrom, entryNumber}
+use Rattle.merging.specs.Entries.{entriesFrom, entryNumber}
 
 -- entry i has a number
 unfoldable pub numberedAt : List ℕ → ℕ → ℕ → Bool

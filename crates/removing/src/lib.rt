@@ -5,7 +5,7 @@ ghost use Rattle.basis.specs.Answers.{Gives};
 ghost use Rattle.meaning.specs.Calls.{removed};
 ghost use Rattle.reports.specs.Stated.{Readable};
 use basis::Answer;
-use combining::entry_count;
+use merging::entry_count;
 use removal::index_of;
 use removal::put_others;
 use reports::ENTRIES_AT;

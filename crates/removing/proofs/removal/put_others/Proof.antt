@@ -1,5 +1,5 @@
 use borrow.Author.Needs.{needs}
-use Rattle.combining.proofs.Rows.{report-written}
+use Rattle.merging.proofs.Rows.{report-written}
 use Rattle.removing.proofs.removal.put_others.Statement.{statement}
 use Rattle.removing.proofs.removal.put_others.Tie as tie
 

@@ -1,7 +1,7 @@
 use borrow.Author.Needs.{needs}
-use Rattle.combining.proofs.Rows.{number-read}
-use Rattle.combining.proofs.entries.entry_number.Statement.{statement}
-use Rattle.combining.proofs.entries.entry_number.Tie as tie
+use Rattle.merging.proofs.Rows.{number-read}
+use Rattle.merging.proofs.entries.entry_number.Statement.{statement}
+use Rattle.merging.proofs.entries.entry_number.Tie as tie
 
 pub entry-number-spec : {M : Type 1} → statement M
 entry-number-spec =

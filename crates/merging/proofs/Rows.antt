@@ -23,8 +23,8 @@ use Rattle.reports.specs.Stated.{Readable}
 use Rattle.reports.proofs.Entries.{figure-small}
 use Rattle.stating.specs.Parts.{statedHeader}
 use Rattle.stating.proofs.Writing.{header-stated}
-use Rattle.combining.specs.Entries.{entriesFrom, rows, entryNumber}
-use Rattle.combining.proofs.Order.{sum-sorted}
+use Rattle.merging.specs.Entries.{entriesFrom, rows, entryNumber}
+use Rattle.merging.proofs.Order.{sum-sorted}
 
 -- an entry, and its number as it is read
 abbrev pub entry : List ℕ → ℕ → Entry

@@ -3,7 +3,7 @@ ghost use mathlib.Core.Path.{_≡_};
 ghost use Prim.Native.Nat.{_<_};
 ghost use Rattle.meaning.specs.Report.{reportYear, entryCount};
 ghost use Rattle.reports.specs.Stated.{Readable};
-ghost use Rattle.combining.specs.Entries.{entryNumber};
+ghost use Rattle.merging.specs.Entries.{entryNumber};
 use reports::ENTRIES_AT;
 use reports::ENTRY_LENGTH;
 

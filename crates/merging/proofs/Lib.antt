@@ -1,0 +1,5 @@
+pub mod Order
+pub mod Apart
+pub mod Rows
+pub mod Shared
+pub mod Merged
