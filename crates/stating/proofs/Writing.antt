@@ -1,7 +1,7 @@
 -- What is written of a report: numbers behind one another, figures, an entry, a header. Assumes nothing.
 use mathlib.Core.List.{List, [], _∷_, _++_, append-assoc, append-nil}
 use mathlib.Core.Path.{_≡_, refl, sym, ap, _∙_}
-use Prim.Native.Nat.{ℕ, _+_, _*_, _-_, _≤_, _<_}
+use Prim.Native.Nat.{ℕ, _+_, _*_, _-_, _/_, _≤_, _<_}
 use native.Mathlib.Nat.{add-zero}
 use native.Mathlib.Numerals.{add-one}
 use native.Mathlib.Omega.{arith}
@@ -9,10 +9,12 @@ use borrow.Author.Needs.{needs}
 use lib.ListN.{length, getD, take, drop, replicate, length-append, length-drop, drop-of-length-le}
 use lib.Seq.{drop-cons, length-take-le}
 use Rattle.basis.specs.Bytes.{bytesOf, packed, Bytes, splice, Written}
+use Rattle.basis.specs.Lists.{countUp}
 use Rattle.basis.proofs.Bytes.{length-bytesOf, written-then}
+use Rattle.basis.proofs.Counting.{counted-all}
 use Rattle.basis.proofs.Rows.{bytes-drop}
 use Rattle.meaning.specs.Masses.{gasCount}
-use Rattle.meaning.specs.Report.{Entry, figures, totals, reportTag, reportLayout, entriesAt, entryLength, reportLength, reportHeader, entryBytes, entryCount, entryAt, entryIn}
+use Rattle.meaning.specs.Report.{Entry, figures, figureCount, totals, reportTag, reportLayout, entriesAt, entryLength, reportLength, reportHeader, entryBytes, entryCount, entryAt, entryIn}
 use Rattle.meaning.proofs.Reports.{formed, length-figures, entry-again, length-totals}
 use Rattle.fields.proofs.Laws.{Writing, writing-none, writing-then, writing-all}
 use Rattle.reports.specs.Stated.{Readable}
@@ -80,11 +82,27 @@ pub front-written : (year n : ℕ) {xs ys zs us : List ℕ} → Written xs 0 (re
 unfolding packed bytesOf statedFront
 front-written year n p q r = written-then (written-then p q refl) r refl
 
+-- a number of one byte, in four, has three zeros
+zeros-behind : (n : ℕ) → n < 256 → bytesOf 4 n ≡ packed (1 ∷ 3 ∷ []) (n ∷ 0 ∷ [])
+unfolding packed bytesOf
+zeros-behind n l = let z : n / 256 ≡ 0 = omega arith in rw z
+
+pub entry-fronted : (number method : ℕ) {at : ℕ} {xs ys zs : List ℕ} → method < 256 → Written xs at (bytesOf 4 number) ys → Written ys (at + 4) (bytesOf 4 method) zs
+    → Written xs at (packed (4 ∷ 1 ∷ 3 ∷ []) (number ∷ method ∷ 0 ∷ [])) zs
+unfolding packed
+entry-fronted number method l p q =
+    same-bytes (ap (λ (bs : List ℕ). bytesOf 4 number ++ bs) (zeros-behind method l)) (written-then p q (rw (length-bytesOf 4 number)))
+
 -- an entry's front, and its figures behind it
-pub entry-written : (number method : ℕ) (ns : List ℕ) {at : ℕ} {xs ys zs : List ℕ} → Written xs at (packed (4 ∷ 1 ∷ 3 ∷ []) (number ∷ method ∷ 0 ∷ [])) ys
-    → Written ys (at + 8) (figureBytes ns) zs → Written xs at (statedEntry number method ns) zs
+all-four : (ns : List ℕ) → length ns ≡ figureCount → getD ns 0 0 ∷ getD ns 1 0 ∷ getD ns 2 0 ∷ getD ns 3 0 ∷ [] ≡ ns
+unfolding countUp
+all-four ns e = rw e at (counted-all (λ k. getD ns k 0) 0 ns (λ i l. refl))
+
+pub entry-written : (number method : ℕ) (ns : List ℕ) {at : ℕ} {xs ys zs : List ℕ} → length ns ≡ figureCount
+    → Written xs at (packed (4 ∷ 1 ∷ 3 ∷ []) (number ∷ method ∷ 0 ∷ [])) ys
+    → Written ys (at + 8) (figureBytes (getD ns 0 0 ∷ getD ns 1 0 ∷ getD ns 2 0 ∷ getD ns 3 0 ∷ [])) zs → Written xs at (statedEntry number method ns) zs
 unfolding statedEntry packed bytesOf
-entry-written number method ns p q = written-then p q refl
+entry-written number method ns e p q = written-then p (rw (all-four ns e) at q) refl
 
 pub header-written : (year n : ℕ) (ns : List ℕ) {xs ys zs : List ℕ} → Written xs 0 (statedFront year n) ys → Written ys 24 (figureBytes ns) zs
     → Written xs 0 (statedHeader year n ns) zs

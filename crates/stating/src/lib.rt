@@ -24,22 +24,23 @@ pub fn put_figures(buf: &mut [u8], at: usize, figures: &[u64])
     }
 }
 
+// The method with its three zeros is a number of four bytes, so that the front is two words.
 fn put_entry_front(buf: &mut [u8], at: usize, number: u64, method: u64)
-    requires { ⌜ at + 8 ≤ length (now buf) ⌝ }
+    requires { ⌜ (at + 8 ≤ length (now buf)) × (method < 256) ⌝ }
     ensures { λ _. ⌜ Written (now (buf .entry)) at (packed (4 ∷ 1 ∷ 3 ∷ []) (number ∷ method ∷ 0 ∷ [])) (now (buf .exit)) ⌝ }
 {
     fields::put_u32(buf, at, number);
-    fields::put_u8(buf, at + 4, method);
-    fields::put_zeros(buf, at + 5, 3);
+    fields::put_u32(buf, at + 4, method);
 }
 
-// The entry of a number, a method and figures.
+// The entry of a number, a method and figures, which are all read before the first is written.
 pub fn put_entry(buf: &mut [u8], at: usize, number: u64, method: u64, figures: &[u64])
-    requires { ⌜ (at + entryLength ≤ length (now buf)) × (length (now figures) ≡ figureCount) ⌝ }
+    requires { ⌜ (at + entryLength ≤ length (now buf)) × (method < 256) × (length (now figures) ≡ figureCount) ⌝ }
     ensures { λ _. ⌜ Written (now (buf .entry)) at (statedEntry number method (now (figures .entry))) (now (buf .exit)) ⌝ }
 {
+    let own = [figures[0], figures[1], figures[2], figures[3]];
     put_entry_front(buf, at, number, method);
-    put_figures(buf, at + 8, figures);
+    put_figures(buf, at + 8, &own);
 }
 
 // "Every report starts with the four bytes GREP. Then: layout 1 (2), year (2)"

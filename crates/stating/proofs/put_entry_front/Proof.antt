@@ -1,5 +1,5 @@
 use borrow.Author.Needs.{needs}
-use Rattle.stating.proofs.Writing.{packed-three}
+use Rattle.stating.proofs.Writing.{entry-fronted}
 use Rattle.stating.proofs.put_entry_front.Statement.{statement}
 use Rattle.stating.proofs.put_entry_front.Tie as tie
 
@@ -11,6 +11,4 @@ put-entry-front-spec =
     (search needs)
     (search needs)
     (search needs)
-    (search needs)
-    (search needs)
-    (λ c. search (needs, packed-three)))
+    (λ c. search (needs, entry-fronted)))
