@@ -23,9 +23,10 @@ use Rattle.meaning.specs.Register.{sourceCount, sourceEntry, numberIn, namePlac
 use Rattle.meaning.specs.Calls.{accepted, hasNumber, indexOf, holds, nameAt, found, inRegister, foundOfTwo}
 use Rattle.meaning.proofs.Registers.{right-register}
 use Rattle.meaning.proofs.Sources.{Placed, placed, length-numbers, number-at, sound-parts}
-use Rattle.registers.specs.Layout.{layoutTests, Headed, HasEntry}
+use Rattle.layouts.specs.Layout.{layoutTests, Headed, HasEntry}
 use Rattle.registers.specs.Keys.{Tested}
-use Rattle.registers.proofs.Tested.{layout-headed, layout-right, layout-refused, layout-passed, passed-headed}
+use Rattle.layouts.proofs.LaidOut.{layout-headed, layout-right}
+use Rattle.registers.proofs.Tested.{layout-refused, layout-passed, passed-headed}
 use Rattle.names.specs.declared.Sought.{Sought}
 use Rattle.names.specs.Numbers.{numbersOf}
 use Rattle.names.specs.Lookups.{Seeks}

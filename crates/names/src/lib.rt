@@ -6,21 +6,21 @@ ghost use mathlib.Core.Path.{_≡_};
 ghost use Prim.Native.Nat.{_≤_};
 ghost use Rattle.meaning.specs.Calls.{accepted, indexOf, nameAt, inRegister, found, foundOfTwo};
 ghost use Rattle.meaning.specs.Parts.{IsName, IsNameOfEither};
-ghost use Rattle.registers.specs.Layout.{Headed, HasEntry};
+ghost use Rattle.layouts.specs.Layout.{Headed, HasEntry};
 ghost use Rattle.registers.specs.Keys.{keysFor};
 ghost use Rattle.names.specs.Lookups.{Seeks};
 use basis::Verdict;
+use layouts::name_start;
+use layouts::part;
+use layouts::test_layout;
+use layouts::u16_in;
+use layouts::u32_in;
 use meaning::Found;
 use meaning::Part;
 use numbers::is_passed;
 use numbers::numbers_differ;
 use registers::keys_for;
-use registers::name_start;
-use registers::part;
-use registers::test_layout;
 use registers::test_register;
-use registers::u16_in;
-use registers::u32_in;
 
 // Up to so many sources the lookups do with small arrays.
 const FEW: usize = 16;

@@ -4,11 +4,11 @@ ghost use lib.ListN.{length};
 ghost use Rattle.basis.specs.Answers.{passes};
 ghost use Rattle.meaning.specs.Register.{sourceCount, sourcesOf, repeatTest};
 ghost use Rattle.twice.specs.Twice.{Nonzero};
-ghost use Rattle.registers.specs.Layout.{Headed};
+ghost use Rattle.layouts.specs.Layout.{Headed};
 ghost use Rattle.names.specs.Numbers.{numbersOf, Tells};
 use basis::Verdict;
+use layouts::u32_in;
 use registers::test_numbers;
-use registers::u32_in;
 use twice::Standing;
 
 pub fn is_passed(verdict: Verdict) -> bool

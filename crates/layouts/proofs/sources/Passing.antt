@@ -1,0 +1,55 @@
+-- Test 3 over all sources. Assumes nothing.
+use mathlib.Core.Bool.{Bool, true, false, cond, not, _||_}
+use mathlib.Core.List.{List, [], _∷_}
+use mathlib.Core.Path.{_≡_, refl, sym, _∙_}
+use Prim.Native.Nat.{ℕ, _+_, _≤_, _<_}
+use native.Mathlib.Omega.{arith}
+use borrow.Author.Needs.{needs}
+use borrow.Author.Tests.{lt-ltb, le-ltb}
+use lib.Dec.{eqb}
+use Rattle.basis.specs.declared.Verdict.{Verdict}
+use Rattle.basis.specs.declared.Verdict.the-variants.{Passes, Refuses}
+use Rattle.basis.specs.First.{first}
+use Rattle.basis.specs.Answers.{refuseAtFirst, firstRefusal}
+use Rattle.fields.specs.Fields.{Field}
+use Rattle.meaning.specs.Register.{sourceCount, lineStart, nameStart, wrongSource, sourceTest, restTest}
+use Rattle.layouts.specs.Layout.{Headed, Begins}
+use Rattle.layouts.proofs.header.Laws.{heard}
+use Rattle.layouts.proofs.Headed.{has-entry}
+use Rattle.basis.proofs.Scans.{Scanning, scan-none, scan-found, scan-more, scan-all}
+
+-- the entries before i are right, and the next has to begin at a line and a name byte
+pub record Passing (b : List ℕ) (n i line byte : ℕ) : Type 0 where
+  pub head : Headed b
+  pub all : n ≡ sourceCount b
+  pub scanning : Scanning (wrongSource b) n i
+  pub begins : Begins b i line byte
+
+abbrev pub overSources : List ℕ → Verdict
+overSources b = firstRefusal (sourceTest b ∷ restTest b ∷ [])
+
+pub passing-none : {b : List ℕ} {n : ℕ} → Headed b → Field 2 b 8 n → Passing b n 0 0 0
+unfolding lineStart nameStart
+passing-none h f = record { head = h; all = f .is; scanning = scan-none; begins = record { atLine = refl; atByte = refl } }
+
+module _ {b : List ℕ} {n i line byte : ℕ} (p : Passing b n i line byte) where
+  pub passing-wrong : {wrong : Bool} → i < n → wrong ≡ wrongSource b i → wrong ≡ true → Refuses 3 i ≡ overSources b
+  unfolding sourceTest refuseAtFirst firstRefusal
+  passing-wrong h e t =
+      let f : i ≡ first (wrongSource b) n = scan-found (p .scanning) h (sym e ∙ t) in
+      rw (← p .all, ← f, lt-ltb i n h)
+
+  pub passing-more : {wrong : Bool} {line′ byte′ : ℕ} → i < n → wrong ≡ wrongSource b i → wrong ≡ false → line′ ≡ lineStart b (i + 1)
+      → byte′ ≡ nameStart b (i + 1) → Passing b n (i + 1) line′ byte′
+  passing-more h e t l m =
+      record { head = p .head; all = p .all; scanning = scan-more (p .scanning) h (sym e ∙ t); begins = record { atLine = l; atByte = m } }
+
+  pub passing-all : {m t : ℕ} {v : Verdict} → n ≤ i → Field 2 b 10 m → Field 4 b 12 t
+      → v ≡ cond (not (eqb line m) || not (eqb byte t)) (Refuses 3 n) Passes → v ≡ overSources b
+  unfolding sourceTest restTest refuseAtFirst firstRefusal
+  passing-all h f g e =
+      let k : i ≡ n = omega (arith, p .scanning .low) in
+      let l : n ≡ first (wrongSource b) n = rw k at (scan-all (p .scanning) h) in
+      e ∙ rw (p .begins .atLine, p .begins .atByte, k, f .is, g .is, ← p .all, ← l, le-ltb n n (omega arith), heard, heard)
+
+pub ruleset passing = (needs, has-entry, passing-none, passing-wrong, passing-more, passing-all)

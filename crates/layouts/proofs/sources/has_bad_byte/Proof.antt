@@ -1,0 +1,24 @@
+use Prim.Native.Nat.{_-_}
+use lib.ListN.{length}
+use Rattle.layouts.proofs.sources.Entries.{Looked, entries}
+use Rattle.layouts.proofs.sources.has_bad_byte.Statement.{statement}
+use Rattle.layouts.proofs.sources.has_bad_byte.Tie as tie
+
+abbrev Inv-loop : tie.InvT-loop
+Inv-loop name bad₀ i₀ bad i = Looked name bad i
+
+abbrev μ-loop : tie.MeasureT-loop
+μ-loop name bad₀ i₀ bad i = length name - i
+
+pub has-bad-byte-spec : {M : Type 1} → statement M
+has-bad-byte-spec =
+    tie.close
+    (tie.spec
+    Inv-loop
+    μ-loop
+    (λ c. search entries)
+    (λ c. search entries)
+    (λ c. search entries)
+    (λ c. search entries)
+    (λ c. search entries)
+    (λ c. search entries))

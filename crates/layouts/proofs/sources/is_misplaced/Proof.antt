@@ -1,0 +1,16 @@
+use native.Mathlib.Omega.{arith}
+use Rattle.layouts.proofs.sources.Entries.{entries}
+use Rattle.layouts.proofs.sources.is_misplaced.Statement.{statement}
+use Rattle.layouts.proofs.sources.is_misplaced.Tie as tie
+
+pub is-misplaced-spec : {M : Type 1} → statement M
+is-misplaced-spec =
+    tie.close
+    (tie.spec
+    (omega arith)
+    (omega arith)
+    (omega arith)
+    (omega arith)
+    (omega arith)
+    (omega arith)
+    (λ c. search entries))
