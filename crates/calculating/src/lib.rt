@@ -14,7 +14,7 @@ use basis::Answer;
 use basis::Verdict;
 use judging::judge_sources;
 
-// So few sources, and so many as a plant mostly has, do not pay for clearing the room of 512.
+// So few sources, and so many, do not pay for clearing the room of 512.
 const FEW: usize = 8;
 
 const SOME: usize = 128;
@@ -78,7 +78,13 @@ fn calculate_few(register: &[u8], report: &mut [u8]) -> Answer
 {
     let mut keys = [0u64; FEW];
     let mut kept = [0u64; 32];
-    calculate_in(register, &mut keys, &mut kept, report)
+    let answer = calculate_in(register, &mut keys, &mut kept, report);
+    // Part by part, since a copy of the whole has to wait until its parts are stored.
+    Answer {
+        number: answer.number,
+        place: answer.place,
+        length: answer.length,
+    }
 }
 
 fn calculate_some(register: &[u8], report: &mut [u8]) -> Answer
