@@ -14,7 +14,7 @@ use basis::Answer;
 use basis::Verdict;
 use judging::judge_sources;
 
-// So few sources, and so many, do not pay for clearing the room of 512.
+// One source, as one that is combined again, and so few, and so many, do not pay for clearing the room of 512.
 const FEW: usize = 8;
 
 const SOME: usize = 128;
@@ -72,19 +72,22 @@ fn calculate_in(register: &[u8], keys: &mut [u64], kept: &mut [u64], report: &mu
     }
 }
 
+fn calculate_one(register: &[u8], report: &mut [u8]) -> Answer
+    requires { ⌜ keysFor (now register) ≤ 1 ⌝ }
+    ensures { λ r. ⌜ Gives (calculated (now (register .entry)) (now (report .entry))) r (now (report .exit)) ⌝ }
+{
+    let mut keys = [0u64; 1];
+    let mut kept = [0u64; 4];
+    calculate_in(register, &mut keys, &mut kept, report)
+}
+
 fn calculate_few(register: &[u8], report: &mut [u8]) -> Answer
     requires { ⌜ keysFor (now register) ≤ 8 ⌝ }
     ensures { λ r. ⌜ Gives (calculated (now (register .entry)) (now (report .entry))) r (now (report .exit)) ⌝ }
 {
     let mut keys = [0u64; FEW];
     let mut kept = [0u64; 32];
-    let answer = calculate_in(register, &mut keys, &mut kept, report);
-    // Part by part, since a copy of the whole has to wait until its parts are stored.
-    Answer {
-        number: answer.number,
-        place: answer.place,
-        length: answer.length,
-    }
+    calculate_in(register, &mut keys, &mut kept, report)
 }
 
 fn calculate_some(register: &[u8], report: &mut [u8]) -> Answer
@@ -105,11 +108,14 @@ fn calculate_many(register: &[u8], report: &mut [u8]) -> Answer
     calculate_in(register, &mut keys, &mut kept, report)
 }
 
-// "Calculation tests 1, 2 by field, 3 over all sources, 4 over all", and what is behind these.
-pub fn calculate(register: &[u8], report: &mut [u8]) -> Answer
+// A calculation in the room that the count of sources wants.
+fn calculate_by_count(register: &[u8], report: &mut [u8]) -> Answer
     ensures { λ r. ⌜ Gives (calculated (now (register .entry)) (now (report .entry))) r (now (report .exit)) ⌝ }
 {
     let count = registers::keys_for(register);
+    if count <= 1 {
+        return calculate_one(register, report);
+    }
     if count <= FEW {
         return calculate_few(register, report);
     }
@@ -117,4 +123,17 @@ pub fn calculate(register: &[u8], report: &mut [u8]) -> Answer
         return calculate_some(register, report);
     }
     calculate_many(register, report)
+}
+
+// "Calculation tests 1, 2 by field, 3 over all sources, 4 over all", and what is behind these. The answer is handed on part by part, since a copy of
+// the whole has to wait until its parts are stored.
+pub fn calculate(register: &[u8], report: &mut [u8]) -> Answer
+    ensures { λ r. ⌜ Gives (calculated (now (register .entry)) (now (report .entry))) r (now (report .exit)) ⌝ }
+{
+    let answer = calculate_by_count(register, report);
+    Answer {
+        number: answer.number,
+        place: answer.place,
+        length: answer.length,
+    }
 }
