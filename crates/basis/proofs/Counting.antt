@@ -69,6 +69,13 @@ counted-list f d (x ∷ xs) j h =
 pub counted-all : {A : Type 0} (f : ℕ → A) (d : A) (xs : List A) → ((i : ℕ) → i < length xs → f i ≡ getD xs i d) → map f (countUp 0 (length xs)) ≡ xs
 counted-all f d xs h = counted-list f d xs 0 (λ i l. ap f (zero-add i) ∙ h i l)
 
+-- the front of zeros reads as zero everywhere, past its end too
+pub zeros-front : (m n i : ℕ) → _≡_ {A = ℕ} (getD (take n (replicate m 0)) i 0) 0
+zeros-front m zero i = refl
+zeros-front zero (suc n) i = refl
+zeros-front (suc m) (suc n) zero = refl
+zeros-front (suc m) (suc n) (suc i) = zeros-front m n i
+
 pub sum-widths : (w n k : ℕ) → k ≤ n → sum (take k (replicate n w)) ≡ w * k
 unfolding sum
 sum-widths w n zero l = omega arith

@@ -2,16 +2,17 @@
 use mathlib.Core.Bool.{Bool, true, false, cond, not, _||_}
 use mathlib.Core.List.{List}
 use mathlib.Core.Logic.{_≢_}
-use mathlib.Core.Path.{_≡_, refl, sym, _∙_}
-use Prim.Native.Nat.{ℕ, zero, suc, _+_, _*_, _/_, _%_, _≤_, _<_}
+use mathlib.Core.Path.{_≡_, refl, sym, ap, _∙_}
+use Prim.Native.Nat.{ℕ, _+_, _*_, _/_, _%_, _≤_, _<_}
 use native.Mathlib.Decide.{decLt}
 use native.Mathlib.Omega.{arith}
 use borrow.Author.Needs.{needs}
 use borrow.Author.Tests.{eqb-true, eqb-false, not-true, not-false}
 use lib.Dec.{eqb}
 use lib.ListN.{length, getD, set, length-set, replicate, length-replicate}
-use lib.Seq.{getD-set-same, getD-set-other}
+use lib.Seq.{take-length, getD-set-same, getD-set-other}
 use Rattle.basis.proofs.Bools.{or-false}
+use Rattle.basis.proofs.Counting.{zeros-front}
 use Rattle.twice.specs.declared.Standing.{Standing}
 use Rattle.twice.specs.declared.Standing.the-variants.{Twice, Open}
 use Rattle.twice.specs.Twice.{Differing, Nonzero, Says, steps, placeCount, homeOf, Home, Empty, Passed}
@@ -179,11 +180,6 @@ module _ {ns t : List ℕ} {i : ℕ} (k : Kept ns t i) where
       by false g = tt
 
 pub all-free : Empty (replicate placeCount 0)
-all-free = record { all = length-replicate {A = ℕ} placeCount 0; free = free placeCount }
-  where
-    free : (n p : ℕ) → _≡_ {A = ℕ} (getD (replicate n 0) p 0) 0
-    free zero p = refl
-    free (suc n) zero = refl
-    free (suc n) (suc p) = free n p
+all-free = record { all = length-replicate {A = ℕ} placeCount 0; free = λ p. ap (λ (l : List ℕ). getD l p 0) (sym (take-length (replicate placeCount 0))) ∙ zeros-front placeCount (length {A = ℕ} (replicate placeCount 0)) p }
 
 pub ruleset keeping = (needs, keep-none, keep-more, keep-all, keep-away)
