@@ -12,7 +12,7 @@ use Rattle.basis.specs.Lists.{countUp, sortedBy}
 use Rattle.basis.specs.Answers.{firstRefusal}
 use Rattle.basis.proofs.Lists.{AllAlike, sort-map}
 use Rattle.basis.proofs.ByIndex.{same-by-index, alike-by-index}
-use Rattle.order.specs.Order.{itself}
+use Rattle.interleaving.specs.Order.{itself}
 use Rattle.meaning.specs.Register.{sourceCount, mostSources, sourceEntry, numberIn, sourceAt, sourcesOf, registerTests}
 use Rattle.meaning.specs.Report.{Entry, entryOf, inOrder}
 use Rattle.meaning.specs.Calls.{entriesFor}
