@@ -3,12 +3,14 @@ ghost use mathlib.Core.Path.{_≡_};
 ghost use Prim.Native.Nat.{_+_, _≤_};
 ghost use lib.ListN.{length};
 ghost use Rattle.digits.specs.Digits.{Fronted};
+ghost use Rattle.numerals.specs.Numerals.{numberIn};
 ghost use Rattle.files.specs.Files.{Front, Within, Named, beside};
-ghost use Rattle.files.specs.Numerals.{numberIn};
 use basis::Answer;
 use libc::PATH_MAX;
 use libc::STDERR_FILENO;
 use libc::STDOUT_FILENO;
+use numerals::Numeral;
+use numerals::number_in;
 use saying::LINE_ROOM;
 
 // One byte more than the longest register, 32 + 16 * 512 + 20 * 1024 + 16384: so much of a longer file is answered as the whole would be.
@@ -20,9 +22,6 @@ pub const REPORT_ROOM: usize = 20537;
 // A path, `.new-`, and a number with the byte behind it.
 const NAME_ROOM: usize = PATH_MAX + 26;
 
-// The largest number that a source can have, 2^32 - 1.
-const LARGEST: u64 = 4294967295;
-
 // Names that are tried for a new file, since other commands have theirs there, and those that were killed have left theirs.
 const TRIES: u64 = 1000;
 
@@ -30,12 +29,6 @@ const TRIES: u64 = 1000;
 pub enum Input {
     Failed,
     Came(usize),
-}
-
-// What a word says where a number is asked for.
-pub enum Numeral {
-    NoNumber,
-    Number(u32),
 }
 
 // A new file, by its descriptor and the length of its name.
@@ -137,38 +130,6 @@ pub fn read_file(i: usize, room: &mut [u8]) -> Input
         return Input::Failed;
     };
     read_path(&path[..n], room)
-}
-
-fn wide(byte: u8) -> u64
-    ensures { λ r. ⌜ r ≡ byte ⌝ }
-{
-    byte as u64
-}
-
-// A word of plain digits is a number, up to the largest that a source can have.
-fn number_in(word: &[u8]) -> Numeral
-    ensures { λ r. ⌜ r ≡ numberIn (now (word .entry)) ⌝ }
-{
-    if word.len() == 0 {
-        return Numeral::NoNumber;
-    }
-    let mut n: u64 = 0;
-    let mut i: usize = 0;
-    while i < word.len() {
-        let byte = wide(word[i]);
-        if byte < 48 {
-            return Numeral::NoNumber;
-        }
-        if 57 < byte {
-            return Numeral::NoNumber;
-        }
-        n = n * 10 + (byte - 48);
-        if LARGEST < n {
-            return Numeral::NoNumber;
-        }
-        i += 1;
-    }
-    Numeral::Number(n as u32)
 }
 
 // The number that a word says. Where it is none, a line on standard error says so.

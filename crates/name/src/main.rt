@@ -1,8 +1,8 @@
 // `name NUMBER REGISTER [REGISTER]`: the name of a source, in a plant's register or in either of the plant's and its contractor's. An empty
 // line says that there is none.
 use files::Input;
-use files::Numeral;
 use files::REGISTER_ROOM;
+use numerals::Numeral;
 
 fn name_in_one(number: u32) {
     let mut register = [0u8; REGISTER_ROOM];

@@ -1,7 +1,7 @@
 // `remove REPORT NUMBER RESULT`: a report without the entry of a number, made in a file.
 use files::Input;
-use files::Numeral;
 use files::REPORT_ROOM;
+use numerals::Numeral;
 
 fn remove(report: &[u8], number: u32) {
     let mut result = [0u8; REPORT_ROOM];

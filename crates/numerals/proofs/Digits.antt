@@ -8,8 +8,8 @@ use borrow.Author.Needs.{needs}
 use borrow.Author.Tests.{lt-ltb, le-ltb}
 use lib.ListN.{length, getD, drop, drop-of-length-le}
 use lib.Seq.{drop-cons}
-use Rattle.files.specs.declared.Numeral.the-variants.{NoNumber, Number}
-use Rattle.files.specs.Numerals.{readOn, numberIn}
+use Rattle.numerals.specs.declared.Numeral.the-variants.{NoNumber, Number}
+use Rattle.numerals.specs.Numerals.{readOn, numberIn}
 
 -- i bytes of a word are read, and say n
 pub record Reading (word : List ℕ) (n i : ℕ) : Type 0 where

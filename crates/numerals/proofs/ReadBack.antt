@@ -11,8 +11,8 @@ use lib.ListN.{length, length-append}
 use Rattle.basis.specs.Bytes.{ascii}
 use Rattle.meaning.specs.Text.{digit, digits, decimal}
 use Rattle.meaning.proofs.Decimals.{one-digit, more-digits}
-use Rattle.files.specs.declared.Numeral.the-variants.{NoNumber, Number}
-use Rattle.files.specs.Numerals.{isDigit, readOn, numberIn}
+use Rattle.numerals.specs.declared.Numeral.the-variants.{NoNumber, Number}
+use Rattle.numerals.specs.Numerals.{isDigit, readOn, numberIn}
 
 one-more : (n d : ℕ) → d < 10 → n * 10 + d < 4294967296 → readOn n (digit d ∷ []) ≡ Number (n * 10 + d)
 unfolding readOn

@@ -1,8 +1,8 @@
 use Prim.Native.Nat.{_-_}
 use lib.ListN.{length}
-use Rattle.files.proofs.Digits.{Reading, reading}
-use Rattle.files.proofs.number_in.Statement.{statement}
-use Rattle.files.proofs.number_in.Tie as tie
+use Rattle.numerals.proofs.Digits.{Reading, reading}
+use Rattle.numerals.proofs.number_in.Statement.{statement}
+use Rattle.numerals.proofs.number_in.Tie as tie
 
 abbrev Inv-loop : tie.InvT-loop
 Inv-loop word n₀ i₀ n i = Reading word n i

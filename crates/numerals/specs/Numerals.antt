@@ -3,8 +3,8 @@ use mathlib.Core.Bool.{Bool, cond, _&&_}
 use mathlib.Core.List.{List, [], _∷_}
 use Prim.Native.Nat.{ℕ, _+_, _*_, _-_}
 use lib.Dec.{ltb}
-use Rattle.files.specs.declared.Numeral.{Numeral}
-use Rattle.files.specs.declared.Numeral.the-variants.{NoNumber, Number}
+use Rattle.numerals.specs.declared.Numeral.{Numeral}
+use Rattle.numerals.specs.declared.Numeral.the-variants.{NoNumber, Number}
 
 -- the bytes `0` to `9`
 abbrev pub isDigit : ℕ → Bool
