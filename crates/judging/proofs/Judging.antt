@@ -17,7 +17,7 @@ use Rattle.meaning.specs.Register.{sourcesAt, sourceLength, sourceCount, lineAt
 use Rattle.meaning.specs.Report.{entryOf, figures}
 use Rattle.meaning.proofs.Sources.{placed, sound-parts}
 use Rattle.masses.specs.declared.Source.{Source}
-use Rattle.masses.specs.Lines.{readAt, readFrom, Lines}
+use Rattle.summing.specs.Lines.{readAt, readFrom, Lines}
 use Rattle.masses.specs.Judged.{Comes}
 use Rattle.meaning.proofs.Registers.{right-register}
 use Rattle.judging.specs.Sources.{Passed, Begins, ComesAt}

@@ -16,11 +16,11 @@ use Rattle.meaning.proofs.Masses.{only-co2}
 use Rattle.exact.specs.Amounts.{value, scale, nothing}
 use Rattle.exact.proofs.Amounts.{room-less}
 use Rattle.exact.proofs.Scales.{mass-scaled, below-zero-scaled}
-use Rattle.masses.specs.declared.Sums.{Sums}
+use Rattle.summing.specs.declared.Sums.{Sums}
+use Rattle.summing.specs.declared.Read.{Read}
+use Rattle.summing.specs.Sums.{Roomy}
+use Rattle.summing.specs.Lines.{readFrom, Holds, Reads}
 use Rattle.masses.specs.declared.Judged.{Judged}
-use Rattle.masses.specs.declared.Read.{Read}
-use Rattle.masses.specs.Sums.{Roomy}
-use Rattle.masses.specs.Lines.{readFrom, Holds, Reads}
 use Rattle.masses.specs.Judged.{netGrams, netMasses, JudgedBy, Comes}
 
 module _ (ls : List Decoded) (s : Sums) (h : Holds ls s) where

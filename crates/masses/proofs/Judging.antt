@@ -23,9 +23,9 @@ use Rattle.exact.specs.declared.Weighed.the-variants.{Within, Above}
 use Rattle.exact.specs.Equivalents.{withinLimit}
 use Rattle.exact.specs.Amounts.{gram, value, nothing, Room, Subtracted}
 use Rattle.exact.proofs.Amounts.{room-left}
-use Rattle.masses.specs.declared.Sums.{Sums}
+use Rattle.summing.specs.declared.Sums.{Sums}
+use Rattle.summing.specs.Sums.{Roomy}
 use Rattle.masses.specs.declared.Judged.{Judged}
-use Rattle.masses.specs.Sums.{Roomy}
 use Rattle.masses.specs.Judged.{AllRoomy, gramsAt, gramsOf, WeighedBy, netGrams, netMasses, JudgedBy}
 
 -- so many gases are rounded

@@ -12,10 +12,10 @@ use Rattle.meaning.specs.Report.{figureCount}
 use Rattle.meaning.specs.Calls.{faultOf}
 use Rattle.exact.specs.declared.Amount.{Amount}
 use Rattle.exact.specs.Amounts.{gram, value, nothing, Room}
-use Rattle.masses.specs.declared.Sums.{Sums}
+use Rattle.summing.specs.declared.Sums.{Sums}
+use Rattle.summing.specs.Lines.{readAt, readFrom}
 use Rattle.masses.specs.declared.Judged.{Judged}
 use Rattle.masses.specs.declared.Source.{Source}
-use Rattle.masses.specs.Lines.{readAt, readFrom}
 
 -- an amount for each gas, each with room to be rounded
 pub record AllRoomy (amounts : List Amount) : Type 0 where

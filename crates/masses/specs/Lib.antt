@@ -1,3 +1,1 @@
-pub mod Sums
-pub mod Lines
 pub mod Judged

@@ -1,5 +1,5 @@
+use mathlib.Core.Path.{sym, _∙_}
 use native.Mathlib.Omega.{arith}
-use borrow.Author.Needs.{needs}
 use Rattle.masses.proofs.Judging.{judged-below, net-roomy, judged-weighed}
 use Rattle.masses.proofs.judge.Statement.{statement}
 use Rattle.masses.proofs.judge.Tie as tie
@@ -8,11 +8,11 @@ pub judge-spec : {M : Type 1} → statement M
 judge-spec =
     tie.close
     (tie.spec
-    (λ c. search needs)
+    (λ c. omega arith)
     (λ c κs. let p = c .before .before .before .pre in (p .added 0 (omega arith) .low-fits, p .taken .low-fits))
-    (λ c. judged-below (omega arith) (cc))
-    (λ c κs. let p = c .before .before .before .before .before .pre in (p .added 0 (omega arith) .low-fits, p .taken .low-fits, cc))
-    (λ c. search needs)
+    (λ c. judged-below (omega arith) (sym (c .before .below .ensures) ∙ c .if1 .taken))
+    (λ c κs. let p = c .before .before .before .before .before .pre in (p .added 0 (omega arith) .low-fits, p .taken .low-fits, sym (c .before .below .ensures) ∙ c .if1 .left))
+    (λ c. omega arith)
     (λ c κs. net-roomy (c .before .before .before .before .before .before .pre) (c .subtract .ensures))
-    (λ c. search needs)
-    (λ c. judged-weighed (c .before .before .before .before .before .before .before .before .pre) (c .before .before .subtract .ensures) (cc) (c .before .grams .ensures) (c .weigh .ensures)))
+    (λ c κs. omega arith)
+    (λ c. judged-weighed (c .before .before .before .before .before .before .before .before .pre) (c .before .before .subtract .ensures) (sym (c .before .before .before .before .below .ensures) ∙ c .before .before .before .if1 .left) (c .before .grams .ensures) (c .weigh .ensures)))

@@ -1,7 +1,7 @@
 use borrow.Author.Needs.{needs}
-use Rattle.masses.proofs.Laws.{line-read}
-use Rattle.masses.proofs.line_at.Statement.{statement}
-use Rattle.masses.proofs.line_at.Tie as tie
+use Rattle.summing.proofs.Laws.{line-read}
+use Rattle.summing.proofs.line_at.Statement.{statement}
+use Rattle.summing.proofs.line_at.Tie as tie
 
 pub line-at-spec : {M : Type 1} → statement M
 line-at-spec =

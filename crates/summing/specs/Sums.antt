@@ -7,7 +7,7 @@ use Rattle.meaning.specs.declared.Decoded.the-variants.{Good}
 use Rattle.meaning.specs.Masses.{gasCount, carbonDioxide, addsTo, takesFrom}
 use Rattle.exact.specs.declared.Amount.{Amount}
 use Rattle.exact.specs.Amounts.{value, scale, nothing, Room}
-use Rattle.masses.specs.declared.Sums.{Sums}
+use Rattle.summing.specs.declared.Sums.{Sums}
 
 -- each sum has room for so many lines more
 pub record Roomy (lines : ℕ) (s : Sums) : Type 0 where

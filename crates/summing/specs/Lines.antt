@@ -10,9 +10,9 @@ use Rattle.meaning.specs.Methods.{listed, decoded, isBad}
 use Rattle.meaning.specs.Masses.{gasCount, carbonDioxide, added, taken}
 use Rattle.meaning.specs.Register.{sourceCount, mostLines, linesAt, lineLength, lineAt}
 use Rattle.exact.specs.Amounts.{value, scale, nothing}
-use Rattle.masses.specs.declared.Sums.{Sums}
-use Rattle.masses.specs.declared.Read.{Read}
-use Rattle.masses.specs.Sums.{Roomy}
+use Rattle.summing.specs.declared.Sums.{Sums}
+use Rattle.summing.specs.declared.Read.{Read}
+use Rattle.summing.specs.Sums.{Roomy}
 
 -- line j of a register, read by a method and parameter; so many lines from one on
 abbrev pub readAt : List ℕ → ℕ → ℕ → ℕ → Decoded

@@ -20,9 +20,9 @@ use Rattle.meaning.specs.Register.{mostLines, lineLength, lineOf}
 use Rattle.meaning.specs.Masses.{gasCount, carbonDioxide, added, taken, addsTo, takesFrom}
 use Rattle.exact.specs.Amounts.{scale, nothing}
 use Rattle.exact.proofs.Amounts.{value-nothing, room-first, room-less}
-use Rattle.masses.specs.declared.Sums.{Sums}
-use Rattle.masses.specs.Sums.{Roomy, Counts}
-use Rattle.masses.specs.Lines.{readAt, readFrom, Lines, Holds, Summed, Reads}
+use Rattle.summing.specs.declared.Sums.{Sums}
+use Rattle.summing.specs.Sums.{Roomy, Counts}
+use Rattle.summing.specs.Lines.{readAt, readFrom, Lines, Holds, Summed, Reads}
 
 -- one line more is read behind the others
 read-more : (b : List ℕ) (m p first k : ℕ) → readFrom b m p first (k + 1) ≡ readFrom b m p first k ++ (readAt b m p (first + k) ∷ [])

@@ -1,10 +1,10 @@
 use borrow.Author.Needs.{needs}
 use native.Mathlib.Omega.{arith}
 use Prim.Native.Nat.{_-_}
-use Rattle.masses.specs.Lines.{Summed}
-use Rattle.masses.proofs.Reading.{summed-none, reads-all, reads-stop, summed-turn, good-fits, roomy-one}
-use Rattle.masses.proofs.read_lines.Statement.{statement}
-use Rattle.masses.proofs.read_lines.Tie as tie
+use Rattle.summing.specs.Lines.{Summed}
+use Rattle.summing.proofs.Reading.{summed-none, reads-all, reads-stop, summed-turn, good-fits, roomy-one}
+use Rattle.summing.proofs.read_lines.Statement.{statement}
+use Rattle.summing.proofs.read_lines.Tie as tie
 
 abbrev Inv-loop : tie.InvT-loop
 Inv-loop register method parameter base first end sums₀ at₀ sums at = Summed register method parameter first end sums at

@@ -22,8 +22,8 @@ use Rattle.methods.specs.Terms.{Weighs, contributed}
 use Rattle.exact.specs.declared.Amount.{Amount}
 use Rattle.exact.specs.Amounts.{value, scale, nothing, Added}
 use Rattle.exact.proofs.Amounts.{room-less, room-next}
-use Rattle.masses.specs.declared.Sums.{Sums}
-use Rattle.masses.specs.Sums.{Roomy, More, Counts}
+use Rattle.summing.specs.declared.Sums.{Sums}
+use Rattle.summing.specs.Sums.{Roomy, More, Counts}
 
 -- the fields of a line, each at its place
 pub line-read : {bs : List ℕ} {at kind unit code a b q : ℕ} → Field 1 bs at kind → Field 1 bs (at + 1) unit → Field 2 bs (at + 2) code → Field 4 bs (at + 4) a

@@ -1,8 +1,8 @@
 use native.Mathlib.Omega.{arith}
 use borrow.Author.Needs.{needs}
-use Rattle.masses.proofs.Laws.{third-gas, taking-counts, adding-counts}
-use Rattle.masses.proofs.with_line.Statement.{statement}
-use Rattle.masses.proofs.with_line.Tie as tie
+use Rattle.summing.proofs.Laws.{third-gas, taking-counts, adding-counts}
+use Rattle.summing.proofs.with_line.Statement.{statement}
+use Rattle.summing.proofs.with_line.Tie as tie
 
 pub with-line-spec : {M : Type 1} → statement M
 with-line-spec =
