@@ -1,21 +1,16 @@
--- Bounds of the tables, of a line in its ranges, and of a product. Assumes nothing.
+-- Bounds of the tables and of a line in its ranges. Assumes nothing.
 use mathlib.Core.Bool.{Bool, true, false, cond, _&&_}
 use mathlib.Core.List.{List}
 use mathlib.Core.Path.{_≡_, refl, sym, ap}
-use Prim.Native.Nat.{ℕ, _*_, _≤_, _<_}
-use native.Mathlib.Nat.{mul-assoc, mul-le-mul}
+use Prim.Native.Nat.{ℕ, _≤_, _<_}
 use native.Mathlib.Omega.{arith}
 use lib.Dec.{T, leb, eqb}
 use lib.ListN.{length, getD, List·getD-eq-default}
 use mir.Facts.{and-yes, leb-yes}
-use mir.Syntax.{w64}
-use mir.Val.{Fits}
 use Rattle.basis.proofs.Tables.{everywhere, everywhere-at}
 use Rattle.meaning.specs.declared.RawLine.{RawLine}
 use Rattle.meaning.specs.Methods.{within, whole, largestContent, mostContent, mostQuantity, inRange}
-use Rattle.meaning.specs.Masses.{carbonDioxide, mostFactor}
-use Rattle.methods.specs.Ranges.{Entry, InRanges, carbonFactor}
-use Rattle.methods.specs.Terms.{Weighs, contributed}
+use Rattle.methods.specs.Ranges.{Entry, InRanges}
 
 -- each entry of a table is within two bounds: one computed test
 pub entry : (table : List ℕ) (low high : ℕ) → everywhere (λ i n. within low high n) table ≡ true → (at : ℕ) → at < length table
@@ -45,22 +40,3 @@ ranged l e h =
 -- a test of a number that is known is the test of that number
 pub known : {k j : ℕ} (n : ℕ) → k ≡ j → eqb k n ≡ eqb j n
 known n e = ap (λ (m : ℕ). eqb m n) e
-
--- a share of a content, by a factor, is one product
-module _ {content share factor : ℕ} (h : (content ≤ largestContent) × (share ≤ whole) × (factor ≤ carbonFactor)) where
-  share-fits : share * factor ≤ mostFactor
-  share-fits = mul-le-mul (h .1) (h .2)
-
-  pub product-fits : Fits w64 (share * factor)
-  product-fits = omega (arith, share-fits)
-
-  pub co2-weighs : (takes : Bool) → Weighs (λ q. contributed takes carbonDioxide (q * content * share * factor))
-      (record { gas = carbonDioxide; takes = takes; content = content; factor = share * factor })
-  co2-weighs takes =
-      record {
-        sum = λ q. ap (contributed takes carbonDioxide) (mul-assoc (q * content) share factor);
-        gas = omega arith;
-        content = h .0;
-        factor = share-fits;
-        only = λ e. refl;
-      }

@@ -17,8 +17,8 @@ use Rattle.meaning.specs.declared.Line.{Line}
 use Rattle.meaning.specs.declared.Decoded.the-variants.{Good}
 use Rattle.meaning.specs.Register.{lineOf}
 use Rattle.meaning.specs.Masses.{gasCount, carbonDioxide, contribution, addsTo, takesFrom}
-use Rattle.methods.specs.declared.Term.{Term}
-use Rattle.methods.specs.Terms.{Weighs, contributed}
+use Rattle.terms.specs.declared.Term.{Term}
+use Rattle.terms.specs.Terms.{Weighs, contributed}
 use Rattle.exact.specs.declared.Amount.{Amount}
 use Rattle.exact.specs.Amounts.{value, scale, nothing, Added}
 use Rattle.exact.proofs.Amounts.{room-less, room-next}

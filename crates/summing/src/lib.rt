@@ -57,7 +57,7 @@ fn with_line(sums: Sums, line: Line) -> Sums
 {
     let quantity = line.quantity;
     let kind = line.kind;
-    let term = methods::term_of(kind);
+    let term = terms::term_of(kind);
     let gas = term.gas;
     let content = term.content;
     let factor = exact::scaled(gas, term.factor);

@@ -1,7 +1,7 @@
 use mathlib.Core.Path.{refl, sym}
 use mathlib.Core.Bool.{true≢false}
-use Rattle.methods.proofs.gas_term.Statement.{statement}
-use Rattle.methods.proofs.gas_term.Tie as tie
+use Rattle.terms.proofs.gas_term.Statement.{statement}
+use Rattle.terms.proofs.gas_term.Tie as tie
 
 pub gas-term-spec : {M : Type 1} → statement M
 gas-term-spec =

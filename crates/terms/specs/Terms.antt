@@ -3,7 +3,7 @@ use mathlib.Core.Bool.{Bool, true, false}
 use mathlib.Core.Path.{_≡_}
 use Prim.Native.Nat.{ℕ, _*_, _≤_, _<_}
 use lib.ListN.{getD}
-use Rattle.methods.specs.declared.Term.{Term}
+use Rattle.terms.specs.declared.Term.{Term}
 use Rattle.meaning.specs.Methods.{largestContent}
 use Rattle.meaning.specs.Masses.{Contribution, carbonDioxide, adding, taking, mostFactors, gasCount}
 

@@ -1,7 +1,7 @@
 use borrow.Author.Needs.{needs}
 use native.Mathlib.Nat.{mul-one}
-use Rattle.methods.proofs.term_of.Statement.{statement}
-use Rattle.methods.proofs.term_of.Tie as tie
+use Rattle.terms.proofs.term_of.Statement.{statement}
+use Rattle.terms.proofs.term_of.Tie as tie
 
 pub term-of-spec : {M : Type 1} → statement M
 term-of-spec =

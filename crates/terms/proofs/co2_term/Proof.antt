@@ -1,0 +1,10 @@
+use Rattle.terms.proofs.Laws.{product-fits, co2-weighs}
+use Rattle.terms.proofs.co2_term.Statement.{statement}
+use Rattle.terms.proofs.co2_term.Tie as tie
+
+pub co2-term-spec : {M : Type 1} → statement M
+co2-term-spec =
+    tie.close
+    (tie.spec
+    (λ c. product-fits (c .pre))
+    (λ c. co2-weighs (c .pre) (c .args .takes)))
