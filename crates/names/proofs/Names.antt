@@ -1,61 +1,28 @@
 -- The lookups: a register that is accepted, a number in it, and where its name stands. Assumes nothing.
 use mathlib.Core.Bool.{Bool, true, false, cond, not, _&&_}
-use mathlib.Core.List.{List, []}
-use mathlib.Core.Logic.{_≢_}
-use mathlib.Core.Path.{_≡_, refl, sym, ap, _∙_}
+use mathlib.Core.List.{List}
+use mathlib.Core.Path.{_≡_, refl, sym, _∙_}
 use Prim.Native.Nat.{ℕ, _+_, _≤_, _<_}
 use native.Mathlib.Omega.{arith}
-use borrow.Author.Needs.{needs}
 use borrow.Author.Tests.{ltb-true, lt-ltb, le-ltb}
 use lib.Dec.{eqb, ltb}
-use lib.ListN.{length, getD}
-use Rattle.basis.specs.declared.Verdict.{Verdict}
-use Rattle.basis.specs.declared.Verdict.the-variants.{Passes, Refuses}
-use Rattle.basis.specs.Answers.{firstRefusal, passes}
+use lib.ListN.{length}
+use Rattle.basis.specs.declared.Verdict.the-variants.{Passes}
+use Rattle.basis.specs.Answers.{firstRefusal}
 use Rattle.basis.proofs.Answers.{passes-is}
 use Rattle.basis.proofs.Bools.{clash, and-true, or-false}
 use Rattle.basis.proofs.Scans.{Scanning, scan-none, scan-found, scan-more, scan-all}
 use Rattle.fields.specs.Fields.{Field}
-use Rattle.twice.specs.Twice.{Nonzero}
 use Rattle.meaning.specs.declared.Part.{Part}
 use Rattle.meaning.specs.declared.Found.{Found}
-use Rattle.meaning.specs.Register.{sourceCount, sourceEntry, numberIn, namePlace, sourceAt, misplaced, unsound, wrongSource, sourcesOf, repeatTest, registerTests}
+use Rattle.meaning.specs.Register.{sourceCount, sourceEntry, namePlace, sourceAt, misplaced, unsound, wrongSource, registerTests}
 use Rattle.meaning.specs.Calls.{accepted, hasNumber, indexOf, holds, nameAt, found, inRegister, foundOfTwo}
 use Rattle.meaning.proofs.Registers.{right-register}
-use Rattle.meaning.proofs.Sources.{Placed, placed, length-numbers, number-at, sound-parts}
-use Rattle.layouts.specs.Layout.{layoutTests, Headed, HasEntry}
-use Rattle.registers.specs.Keys.{Tested}
-use Rattle.layouts.proofs.LaidOut.{layout-headed, layout-right}
-use Rattle.registers.proofs.Tested.{layout-refused, layout-passed, passed-headed}
+use Rattle.meaning.proofs.Sources.{Placed, placed}
+use Rattle.layouts.specs.Layout.{Headed, HasEntry}
+use Rattle.registers.proofs.Tested.{passed-headed}
 use Rattle.names.specs.declared.Sought.{Sought}
-use Rattle.names.specs.Numbers.{numbersOf}
 use Rattle.names.specs.Lookups.{Seeks}
-
-pub accepted-is : {b keys left : List ℕ} {v : Verdict} {ok : Bool} → Tested b keys v left → ok ≡ passes v → ok ≡ accepted b
-unfolding accepted
-accepted-is t e = e ∙ ap passes (t .verdict)
-
--- the same from tests 1 to 3 and whether test 4 passes
-module _ (b : List ℕ) {v : Verdict} (e : v ≡ firstRefusal (layoutTests b)) where
-  pub accepts-none : {n p : ℕ} → v ≡ Refuses n p → false ≡ accepted b
-  accepts-none f = accepted-is (layout-refused b e {keys = []} f) (rw f)
-
-  -- test 3 refuses a source whose number is 0
-  pub layout-nonzero : v ≡ Passes → Nonzero (numbersOf b)
-  unfolding wrongSource sourceAt
-  layout-nonzero f = record { some = some }
-    where
-      some : (i : ℕ) → i < length (numbersOf b) → getD (numbersOf b) i 0 ≢ 0
-      some i l g =
-          let m : i < sourceCount b = omega (arith, length-numbers b) in
-          let s = or-false (misplaced b i) (unsound (sourceAt b i)) (layout-right b e f i m) .1 in
-          let n : 0 < numberIn (sourceEntry b i) = sound-parts (sourceAt b i) s .number in
-          omega (arith, sym (number-at b i m) ∙ g)
-
-  pub accepts-last : {ok : Bool} → v ≡ Passes → ok ≡ passes (repeatTest (sourcesOf b)) → ok ≡ accepted b
-  accepts-last f g = accepted-is (layout-passed b e {keys = []} f (record { verdict = refl; order = refl })) g
-
-pub ruleset accepting = (needs, layout-headed, layout-nonzero, accepts-none, accepts-last)
 
 -- what a register that is accepted keeps
 module _ (b : List ℕ) (e : accepted b ≡ true) where
@@ -93,9 +60,6 @@ module _ {b : List ℕ} {number n i : ℕ} (f : Finding b number n i) where
   unfolding hasNumber
   has g e = rw (g .is) at e
 
-  pub find-entry : i < n → HasEntry b i
-  find-entry h = record { head = f .head; below = omega (arith, f .all) }
-
   pub find-hit : {x : ℕ} → i < n → Field 4 (sourceEntry b i) 0 x → eqb x number ≡ true → i ≡ indexOf b number
   unfolding indexOf
   find-hit h g e = rw (← f .all) (scan-found (f .scanning) h (has g e))
@@ -106,8 +70,6 @@ module _ {b : List ℕ} {number n i : ℕ} (f : Finding b number n i) where
   pub find-all : n ≤ i → i ≡ indexOf b number
   unfolding indexOf
   find-all h = rw (← f .all) (scan-all (f .scanning) h)
-
-pub ruleset finding = (needs, find-none, find-entry, find-hit, find-more, find-all)
 
 abbrev nothing : Part
 nothing = record { offset = 0; length = 0 }
@@ -134,9 +96,6 @@ pub name-there : {start size : ℕ} (b : List ℕ) (i : ℕ) → start ≡ nameP
     → _≡_ {A = Part} (record { offset = start; length = size }) (nameAt b i)
 unfolding nameAt
 name-there b i p f = rw (p, f .is)
-
-pub ruleset seeking =
-    (needs, accepted-is, accepted-by, accepted-headed, accepted-counts, accepted-entry, sought-held, sought-absent, sought-refused, name-there)
 
 -- a name found stands within the register
 found-within : (b : List ℕ) (number : ℕ) → found b number .offset + found b number .length ≤ length b
@@ -218,5 +177,3 @@ module _ {plant contractor : List ℕ} {number : ℕ} {s t : Sought} (p : Seeks 
       → r ≡ foundOfTwo plant contractor number
   unfolding foundOfTwo
   found-nowhere f g e = e ∙ rw (sym alone ∙ f, sym other ∙ g)
-
-pub ruleset choosing = (needs, found-here, found-there, found-nowhere)

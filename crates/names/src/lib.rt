@@ -1,29 +1,17 @@
 // The name of a source, looked up by its number in a register, or in either of two, that tests 1 to 4 accept.
-mod numbers;
-
 ghost use mathlib.Core.Bool.{true};
 ghost use mathlib.Core.Path.{_≡_};
-ghost use Prim.Native.Nat.{_≤_};
 ghost use Rattle.meaning.specs.Calls.{accepted, indexOf, nameAt, inRegister, found, foundOfTwo};
 ghost use Rattle.meaning.specs.Parts.{IsName, IsNameOfEither};
 ghost use Rattle.layouts.specs.Layout.{Headed, HasEntry};
-ghost use Rattle.registers.specs.Keys.{keysFor};
 ghost use Rattle.names.specs.Lookups.{Seeks};
-use basis::Verdict;
+use accepting::accepts;
 use layouts::name_start;
 use layouts::part;
-use layouts::test_layout;
 use layouts::u16_in;
 use layouts::u32_in;
 use meaning::Found;
 use meaning::Part;
-use numbers::is_passed;
-use numbers::numbers_differ;
-use registers::keys_for;
-use registers::test_register;
-
-// Up to so many sources the lookups do with small arrays.
-const FEW: usize = 16;
 
 // The empty part at the front of a register.
 const NOWHERE: Part = Part {
@@ -36,36 +24,6 @@ struct Sought {
     accepted: bool,
     held: bool,
     name: Part,
-}
-
-fn accepts_few(register: &[u8]) -> bool
-    requires { ⌜ keysFor (now register) ≤ 16 ⌝ }
-    ensures { λ r. ⌜ r ≡ accepted (now (register .entry)) ⌝ }
-{
-    let mut keys = [0u64; FEW];
-    let mut spare = [0u64; FEW];
-    is_passed(test_register(register, &mut keys, &mut spare))
-}
-
-fn accepts_many(register: &[u8]) -> bool
-    ensures { λ r. ⌜ r ≡ accepted (now (register .entry)) ⌝ }
-{
-    let layout = test_layout(register);
-    let Verdict::Passes = layout else {
-        return false;
-    };
-    numbers_differ(register)
-}
-
-// Whether tests 1 to 4 accept a register. Few sources do not pay for clearing arrays of 512.
-fn accepts(register: &[u8]) -> bool
-    ensures { λ r. ⌜ r ≡ accepted (now (register .entry)) ⌝ }
-{
-    let count = keys_for(register);
-    if count <= FEW {
-        return accepts_few(register);
-    }
-    accepts_many(register)
 }
 
 fn index_of(register: &[u8], number: u32) -> usize

@@ -1,5 +1,6 @@
 use Prim.Native.Nat.{_-_}
-use Rattle.names.proofs.Names.{Finding, finding}
+use native.Mathlib.Omega.{arith}
+use Rattle.names.proofs.Names.{Finding, find-none, find-hit, find-more, find-all}
 use Rattle.names.proofs.index_of.Statement.{statement}
 use Rattle.names.proofs.index_of.Tie as tie
 
@@ -15,11 +16,11 @@ index-of-spec =
     (tie.spec
     Inv-loop
     μ-loop
-    (λ c κs. search finding)
-    (λ c. search finding)
-    (λ c κs. search finding)
-    (λ c. search finding)
-    (λ c. search finding)
-    (λ c. search finding)
-    (λ c. search finding)
-    (λ c. search finding))
+    (λ c κs. omega arith)
+    (λ c. search find-none)
+    (λ c κs. omega arith)
+    (λ c. search find-hit)
+    (λ c. omega arith)
+    (λ c. omega arith)
+    (λ c. search find-more)
+    (λ c. search find-all))

@@ -1,5 +1,4 @@
-use borrow.Author.Needs.{needs}
-use Rattle.names.proofs.Names.{seeking}
+use Rattle.names.proofs.Names.{accepted-by, sought-refused}
 use Rattle.names.proofs.look.Statement.{statement}
 use Rattle.names.proofs.look.Tie as tie
 
@@ -7,7 +6,7 @@ pub look-spec : {M : Type 1} → statement M
 look-spec =
     tie.close
     (tie.spec
-    (search needs)
-    (λ c κs. search seeking)
-    (λ c. search needs)
-    (λ c. search seeking))
+    (λ c κs. tt)
+    (λ c κs. search accepted-by)
+    (λ c. search)
+    (λ c. search sought-refused))

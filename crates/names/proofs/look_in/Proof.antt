@@ -1,4 +1,4 @@
-use Rattle.names.proofs.Names.{seeking}
+use Rattle.names.proofs.Names.{accepted-headed, accepted-entry, accepted-counts, sought-held, sought-absent}
 use Rattle.names.proofs.look_in.Statement.{statement}
 use Rattle.names.proofs.look_in.Tie as tie
 
@@ -6,8 +6,8 @@ pub look-in-spec : {M : Type 1} → statement M
 look-in-spec =
     tie.close
     (tie.spec
-    (λ c κs. search seeking)
-    (λ c κs. search seeking)
-    (λ c κs. search seeking)
-    (λ c. search seeking)
-    (λ c. search seeking))
+    (λ c κs. search accepted-counts)
+    (λ c κs. search accepted-headed)
+    (λ c κs. search accepted-entry)
+    (λ c. search sought-held)
+    (λ c. search sought-absent))

@@ -1,5 +1,5 @@
-use borrow.Author.Needs.{needs}
-use Rattle.names.proofs.Names.{seeking}
+use native.Mathlib.Omega.{arith}
+use Rattle.names.proofs.Names.{name-there}
 use Rattle.names.proofs.name_at.Statement.{statement}
 use Rattle.names.proofs.name_at.Tie as tie
 
@@ -7,6 +7,6 @@ pub name-at-spec : {M : Type 1} → statement M
 name-at-spec =
     tie.close
     (tie.spec
-    (search needs)
-    (search needs)
-    (λ c. search seeking))
+    (λ c κs. omega arith)
+    (λ c κs. omega arith)
+    (λ c. search name-there))

@@ -1,5 +1,3 @@
-use native.Mathlib.Omega.{arith}
-use borrow.Author.Needs.{needs}
 use Rattle.names.proofs.Names.{within}
 use Rattle.names.proofs.name_of.Statement.{statement}
 use Rattle.names.proofs.name_of.Tie as tie
@@ -8,6 +6,6 @@ pub name-of-spec : {M : Type 1} → statement M
 name-of-spec =
     tie.close
     (tie.spec
-    (search needs)
-    (λ c κs. omega (arith, within _ _ (c .name-place .ensures)))
+    (λ c κs. tt)
+    (λ c κs. search within)
     (λ c. rw (← c .before .name-place .ensures) (c .part .ensures)))

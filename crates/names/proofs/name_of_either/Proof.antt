@@ -1,4 +1,3 @@
-use borrow.Author.Needs.{needs}
 use Rattle.names.proofs.Names.{within-plant, within-contractor}
 use Rattle.names.proofs.name_of_either.Statement.{statement}
 use Rattle.names.proofs.name_of_either.Tie as tie
@@ -7,8 +6,8 @@ pub name-of-either-spec : {M : Type 1} → statement M
 name-of-either-spec =
     tie.close
     (tie.spec
-    (search needs)
-    (λ c κs. search (needs, within-plant))
+    (λ c κs. tt)
+    (λ c κs. search within-plant)
     (λ c. rw (← c .before .before .before .name-place-of-two .ensures, c .before .if1 .taken) (c .part .ensures))
-    (λ c κs. search (needs, within-contractor))
+    (λ c κs. search within-contractor)
     (λ c. rw (← c .before .before .before .name-place-of-two .ensures, c .before .if1 .left) (c .part2 .ensures)))

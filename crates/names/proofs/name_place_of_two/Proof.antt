@@ -1,5 +1,4 @@
-use borrow.Author.Needs.{needs}
-use Rattle.names.proofs.Names.{choosing}
+use Rattle.names.proofs.Names.{found-here, found-there, found-nowhere}
 use Rattle.names.proofs.name_place_of_two.Statement.{statement}
 use Rattle.names.proofs.name_place_of_two.Tie as tie
 
@@ -7,11 +6,11 @@ pub name-place-of-two-spec : {M : Type 1} → statement M
 name-place-of-two-spec =
     tie.close
     (tie.spec
-    (search needs)
-    (search needs)
-    (search needs)
-    (λ c. search choosing)
-    (search needs)
-    (λ c. search choosing)
-    (search needs)
-    (λ c. search choosing))
+    (λ c κs. tt)
+    (λ c κs. tt)
+    (λ c κs. tt)
+    (λ c. search found-here)
+    (λ c κs. tt)
+    (λ c. search found-there)
+    (λ c κs. tt)
+    (λ c. search found-nowhere))

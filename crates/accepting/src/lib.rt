@@ -1,0 +1,46 @@
+// Whether tests 1 to 4 accept a register, for whoever has no use for the order of its sources.
+mod numbers;
+
+ghost use mathlib.Core.Path.{_≡_};
+ghost use Prim.Native.Nat.{_≤_};
+ghost use Rattle.meaning.specs.Calls.{accepted};
+ghost use Rattle.registers.specs.Keys.{keysFor};
+use basis::Verdict;
+use layouts::test_layout;
+use numbers::is_passed;
+use numbers::numbers_differ;
+use registers::keys_for;
+use registers::test_register;
+
+// Up to so many sources small arrays do.
+const FEW: usize = 16;
+
+fn accepts_few(register: &[u8]) -> bool
+    requires { ⌜ keysFor (now register) ≤ 16 ⌝ }
+    ensures { λ r. ⌜ r ≡ accepted (now (register .entry)) ⌝ }
+{
+    let mut keys = [0u64; FEW];
+    let mut spare = [0u64; FEW];
+    is_passed(test_register(register, &mut keys, &mut spare))
+}
+
+fn accepts_many(register: &[u8]) -> bool
+    ensures { λ r. ⌜ r ≡ accepted (now (register .entry)) ⌝ }
+{
+    let layout = test_layout(register);
+    let Verdict::Passes = layout else {
+        return false;
+    };
+    numbers_differ(register)
+}
+
+// Whether tests 1 to 4 accept a register. Few sources do not pay for clearing arrays of 512.
+pub fn accepts(register: &[u8]) -> bool
+    ensures { λ r. ⌜ r ≡ accepted (now (register .entry)) ⌝ }
+{
+    let count = keys_for(register);
+    if count <= FEW {
+        return accepts_few(register);
+    }
+    accepts_many(register)
+}
