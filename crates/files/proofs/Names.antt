@@ -29,4 +29,4 @@ module _ {made : Made} {room : List ℕ} {n : ℕ} (w : Named made room) where
   pub named-part : (fd : _) → made ≡ Open fd n → n ≡ length (take n room)
   named-part fd e = let f : Front n room = rw e at w in f .part
 
-pub ruleset naming = (needs, beside-put, named-within, named-part)
+pub ruleset naming = (needs, named-within, named-part)

@@ -1,5 +1,5 @@
 use borrow.Author.Needs.{needs}
-use Rattle.files.proofs.Names.{naming}
+use Rattle.files.proofs.Names.{beside-put}
 use Rattle.files.proofs.put_beside.Statement.{statement}
 use Rattle.files.proofs.put_beside.Tie as tie
 
@@ -18,4 +18,4 @@ put-beside-spec =
     (search needs)
     (search needs)
     (search needs)
-    (λ c. search naming))
+    (λ c. beside-put _ (c .before .before .before .before .before .before .before .before .before .before .before .before .before .before .number-field .ensures) (c .before .before .before .before .before .before .before .before .before .before .before .before .put-bytes .ensures) (c .before .before .before .before .before .before .before .put-bytes2 .ensures) (c .before .before .put-bytes3 .ensures)))
