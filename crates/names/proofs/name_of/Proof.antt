@@ -1,3 +1,4 @@
+use native.Mathlib.Omega.{arith}
 use Rattle.names.proofs.Names.{within}
 use Rattle.names.proofs.name_of.Statement.{statement}
 use Rattle.names.proofs.name_of.Tie as tie
@@ -7,5 +8,5 @@ name-of-spec =
     tie.close
     (tie.spec
     (λ c κs. tt)
-    (λ c κs. search within)
+    (λ c κs. omega (arith, within _ _ (c .name-place .ensures)))
     (λ c. rw (← c .before .name-place .ensures) (c .part .ensures)))
