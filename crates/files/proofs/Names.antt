@@ -3,7 +3,6 @@ use mathlib.Core.List.{List, _++_}
 use mathlib.Core.Path.{_≡_, refl}
 use Prim.Native.Nat.{ℕ, _+_, _≤_}
 use native.Mathlib.Omega.{arith}
-use borrow.Author.Needs.{needs}
 use lib.ListN.{length, take, length-append}
 use Rattle.basis.specs.Bytes.{ascii, Written}
 use Rattle.basis.proofs.Bytes.{written-then}
@@ -28,5 +27,3 @@ module _ {made : Made} {room : List ℕ} {n : ℕ} (w : Named made room) where
 
   pub named-part : (fd : _) → made ≡ Open fd n → n ≡ length (take n room)
   named-part fd e = let f : Front n room = rw e at w in f .part
-
-pub ruleset naming = (needs, named-within, named-part)

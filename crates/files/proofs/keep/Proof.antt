@@ -1,5 +1,5 @@
-use borrow.Author.Needs.{needs}
-use Rattle.files.proofs.Names.{naming}
+use native.Mathlib.Omega.{arith}
+use Rattle.files.proofs.Names.{named-within, named-part}
 use Rattle.files.proofs.keep.Statement.{statement}
 use Rattle.files.proofs.keep.Tie as tie
 
@@ -7,18 +7,18 @@ pub keep-spec : {M : Type 1} → statement M
 keep-spec =
     tie.close
     (tie.spec
-    (search needs)
-    (search needs)
-    (search needs)
-    (search needs)
-    (search needs)
-    (search needs)
-    (search needs)
-    (λ c. search naming)
-    (λ c. search naming)
-    (search needs)
-    (λ c. search naming)
-    (λ c. search naming)
-    (search needs)
-    (search needs)
-    (search needs))
+    (λ c. omega arith)
+    (λ c κs. omega arith)
+    (λ c. omega arith)
+    (λ c. omega arith)
+    (λ c κs. tt)
+    (λ c. omega arith)
+    (λ c κs. tt)
+    (λ c. search named-within)
+    (λ c. search named-part)
+    (λ c κs. tt)
+    (λ c. search named-within)
+    (λ c. search named-part)
+    (λ c κs. tt)
+    (λ c. omega arith)
+    (λ c. omega arith))

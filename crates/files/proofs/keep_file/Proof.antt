@@ -1,7 +1,6 @@
 use native.Mathlib.Omega.{arith}
 use lib.ListN.{length-take}
-use borrow.Author.Needs.{needs}
-use Rattle.files.proofs.Coming.{coming}
+use Rattle.files.proofs.Coming.{came-within, came-part}
 use Rattle.files.proofs.keep_file.Statement.{statement}
 use Rattle.files.proofs.keep_file.Tie as tie
 
@@ -9,13 +8,13 @@ pub keep-file-spec : {M : Type 1} → statement M
 keep-file-spec =
     tie.close
     (tie.spec
-    (search needs)
-    (search needs)
-    (search needs)
-    (search needs)
-    (search needs)
-    (search needs)
-    (λ c. search coming)
-    (λ c. search coming)
+    (λ c κs. tt)
+    (λ c. omega arith)
+    (λ c κs. tt)
+    (λ c. omega arith)
+    (λ c. omega arith)
+    (λ c. omega arith)
+    (λ c. search came-within)
+    (λ c. search came-part)
     (λ c κs. simp length-take (omega arith))
-    (search needs))
+    (λ c. omega arith))

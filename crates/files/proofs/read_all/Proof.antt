@@ -1,8 +1,7 @@
 use mathlib.Core.Path.{_≡_}
 use Prim.Native.Nat.{_-_, _≤_}
-use lib.ListN.{length}
 use native.Mathlib.Omega.{arith}
-use borrow.Author.Needs.{needs}
+use lib.ListN.{length}
 use Rattle.files.proofs.Coming.{came-within, fronting}
 use Rattle.files.proofs.read_all.Statement.{statement}
 use Rattle.files.proofs.read_all.Tie as tie
@@ -19,19 +18,19 @@ read-all-spec =
     (tie.spec
     Inv-loop
     μ-loop
-    (λ c. search needs)
-    (λ c. search needs)
-    (λ c. search needs)
-    (λ c. search needs)
-    (λ c κs. search needs)
-    (λ c. search needs)
-    (λ c. search needs)
-    (λ c. search needs)
-    (λ c. search needs)
-    (λ c. search needs)
+    (λ c. omega arith)
+    (λ c. omega arith)
+    (λ c. omega arith)
+    (λ c. omega arith)
+    (λ c κs. tt)
+    (λ c. omega arith)
+    (λ c. omega arith)
+    (λ c. omega arith)
+    (λ c. omega arith)
+    (λ c. omega arith)
     (λ c. fronting _ _ (omega arith))
     (λ c. let l = came-within (c .before .before .before .before .before .before .read-some .ensures) (c .before .before .some .given .1) in record { fits = omega (arith, l) })
+    (λ c. omega arith)
     (λ c. let l = came-within (c .before .before .before .before .before .before .read-some .ensures) (c .before .before .some .given .1) in omega (arith, l))
-    (λ c. let l = came-within (c .before .before .before .before .before .before .read-some .ensures) (c .before .before .some .given .1) in omega (arith, l))
-    (λ c. search needs)
-    (λ c. fronting _ _ (omega arith)))
+    (λ c. omega arith)
+    (λ c. search fronting))

@@ -1,5 +1,5 @@
-use borrow.Author.Needs.{needs}
-use Rattle.files.proofs.Coming.{coming}
+use native.Mathlib.Omega.{arith}
+use Rattle.files.proofs.Coming.{came-within, came-part}
 use Rattle.files.proofs.read_file.Statement.{statement}
 use Rattle.files.proofs.read_file.Tie as tie
 
@@ -7,14 +7,14 @@ pub read-file-spec : {M : Type 1} → statement M
 read-file-spec =
     tie.close
     (tie.spec
-    (search needs)
-    (search needs)
-    (search needs)
-    (search needs)
-    (search needs)
-    (search needs)
-    (λ c. search coming)
-    (λ c. search coming)
-    (search needs)
-    (search needs)
-    (search needs))
+    (λ c κs. tt)
+    (λ c. omega arith)
+    (λ c κs. tt)
+    (λ c. omega arith)
+    (λ c. omega arith)
+    (λ c. omega arith)
+    (λ c. search came-within)
+    (λ c. search came-part)
+    (λ c κs. tt)
+    (λ c. omega arith)
+    (λ c. omega arith))
