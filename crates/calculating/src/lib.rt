@@ -14,10 +14,10 @@ use basis::Answer;
 use basis::Verdict;
 use judging::judge_sources;
 
-// One source, as one that is combined again, and so few, and so many, do not pay for clearing the room of 512.
+// Rooms for one source, for so few and for so many, each eight times the one before: so no count pays much for clearing the room of 512.
 const FEW: usize = 8;
 
-const SOME: usize = 128;
+const SOME: usize = 64;
 
 // What is left of a calculation whose tests have passed: the room, and the report.
 fn issue(register: &[u8], keys: &[u64], kept: &[u64], report: &mut [u8]) -> Answer
@@ -91,11 +91,11 @@ fn calculate_few(register: &[u8], report: &mut [u8]) -> Answer
 }
 
 fn calculate_some(register: &[u8], report: &mut [u8]) -> Answer
-    requires { ⌜ keysFor (now register) ≤ 128 ⌝ }
+    requires { ⌜ keysFor (now register) ≤ 64 ⌝ }
     ensures { λ r. ⌜ Gives (calculated (now (register .entry)) (now (report .entry))) r (now (report .exit)) ⌝ }
 {
     let mut keys = [0u64; SOME];
-    let mut kept = [0u64; 512];
+    let mut kept = [0u64; 256];
     calculate_in(register, &mut keys, &mut kept, report)
 }
 
