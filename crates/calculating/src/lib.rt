@@ -14,7 +14,7 @@ use basis::Answer;
 use basis::Verdict;
 use judging::judge_sources;
 
-// Rooms for one source, for so few and for so many, each eight times the one before: so no count pays much for clearing the room of 512.
+// Rooms for one source, for so few and for so many, each eight times the one before: so none clears more than eight times what it wants.
 const FEW: usize = 8;
 
 const SOME: usize = 64;

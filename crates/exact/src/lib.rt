@@ -104,7 +104,8 @@ pub fn subtract(a: Amount, b: Amount) -> Amount
     }
 }
 
-// "nearest, an exact half upward". A word of ten-billionths is less than half a gram, and no source has all three gases.
+// "nearest, an exact half upward". No source has all three gases, and nothing is divided for one that it lacks: a word of ten-billionths is less than
+// half a gram.
 pub fn round(a: Amount) -> u64
     requires { ⌜ Room 0 a ⌝ }
     ensures { λ r. ⌜ r ≡ rounded (value a) gram ⌝ }

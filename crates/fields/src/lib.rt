@@ -55,13 +55,6 @@ fn put_number(buf: &mut [u8], at: usize, k: usize, v: u64)
     }
 }
 
-pub fn put_u8(buf: &mut [u8], at: usize, v: u64)
-    requires { ⌜ at + 1 ≤ length (now buf) ⌝ }
-    ensures { λ _. ⌜ Written (now (buf .entry)) at (bytesOf 1 v) (now (buf .exit)) ⌝ }
-{
-    put_number(buf, at, 1, v)
-}
-
 pub fn put_u16(buf: &mut [u8], at: usize, v: u64)
     requires { ⌜ at + 2 ≤ length (now buf) ⌝ }
     ensures { λ _. ⌜ Written (now (buf .entry)) at (bytesOf 2 v) (now (buf .exit)) ⌝ }
