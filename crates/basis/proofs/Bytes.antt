@@ -1,7 +1,7 @@
 -- The laws of numbers in bytes and of lists written over. Assumes nothing.
 use mathlib.Core.Path.{_≡_, refl, ap, _∙_}
 use mathlib.Core.List.{List, [], _∷_, _++_, append-assoc, append-nil}
-use Prim.Native.Nat.{ℕ, zero, suc, _+_, _*_, _-_, _/_, _%_, _^_, _≤_, _<_}
+use Prim.Native.Nat.{ℕ, zero, suc, _+_, _*_, _/_, _%_, _^_, _≤_, _<_}
 use native.Mathlib.Nat.{add-assoc, add-zero, zero-add, suc-add, pow-suc, not-suc-le-zero, le-of-suc-le-suc}
 use native.Mathlib.Omega.{arith}
 use lib.ListN.{length, take, drop, getD, length-append, length-take, length-drop, take-append-drop}
@@ -99,18 +99,13 @@ part-of-front zero k l = rw zero-add
 part-of-front (suc p) k [] = rw (suc-add, take-nil {A = ℕ} k)
 part-of-front (suc p) k (x ∷ l) = rw suc-add (part-of-front p k l)
 
--- reading before, inside and behind what was written
+-- reading before and inside what was written
 module _ {xs ys zs : List ℕ} {at : ℕ} (w : Written xs at ys zs) where
   front-kept : take at zs ≡ take at xs
   unfolding splice
   front-kept =
       let h : length (take at xs) ≡ at = length-take-le at xs (omega (arith, w .fits)) in
       rw (w .is, append-assoc) (take-at (take at xs) (ys ++ drop (at + length ys) xs) at h)
-
-  back-kept : drop (at + length ys) zs ≡ drop (at + length ys) xs
-  unfolding splice
-  back-kept =
-      rw (w .is) (drop-at (take at xs ++ ys) (drop (at + length ys) xs) (at + length ys) (length-head xs at ys (omega (arith, w .fits))))
 
   pub read-before : (p k : ℕ) → p + k ≤ at → take k (drop p zs) ≡ take k (drop p xs)
   read-before p k h = rw (part-of-front p k zs, part-of-front p k xs, ← take-take (p + k) at zs, ← take-take (p + k) at xs, front-kept)
@@ -122,11 +117,6 @@ module _ {xs ys zs : List ℕ} {at : ℕ} (w : Written xs at ys zs) where
       let g : p ≤ length ys = omega arith in
       let d : k ≤ length (drop p ys) = rw length-drop (omega arith) in
       rw (w .is, append-assoc, ← drop-drop p at, drop-at (take at xs), drop-append-le p ys, take-append-le k (drop p ys))
-
-  pub read-behind : (p : ℕ) → at + length ys ≤ p → drop p zs ≡ drop p xs
-  read-behind p h =
-      let q : at + length ys + (p - (at + length ys)) ≡ p = omega arith in
-      rw (← q, ← drop-drop (p - (at + length ys)) (at + length ys) zs, ← drop-drop (p - (at + length ys)) (at + length ys) xs, back-kept)
 
 pub length-packed : (ws ns : List ℕ) → length ws ≡ length ns → length (packed ws ns) ≡ sum ws
 unfolding packed sum
