@@ -4,7 +4,6 @@ use mathlib.Core.List.{List, [], _∷_, map}
 use mathlib.Core.Path.{_≡_, sym, ap, _∙_}
 use Prim.Native.Nat.{ℕ, _*_, _≤_, _<_}
 use native.Mathlib.Omega.{arith}
-use borrow.Author.Needs.{needs}
 use borrow.Author.Tests.{le-ltb}
 use lib.Dec.{ltb}
 use lib.ListN.{length, drop}
@@ -109,5 +108,3 @@ module _ (b : List ℕ) (p : firstRefusal (calculationTests b) ≡ Passes) {n ne
   pub issued-made : {report left : List ℕ} → Written report 0 (calculatedReport b) left → Gives (calculated b report) (record { number = 0; place = 0; length = needed }) left
   unfolding calculated
   issued-made {report} w = rw (← needed-is) (made-gives (calculationTests b) (calculatedReport b) report p w)
-
-pub ruleset issued = (needs, issued-short, issued-room, issued-made)

@@ -5,7 +5,6 @@ use mathlib.Core.Path.{_≡_, refl, sym, ap, _∙_}
 use Prim.Native.Nat.{ℕ, _+_, _≤_, _<_}
 use native.Mathlib.Decide.{decLt}
 use native.Mathlib.Omega.{arith}
-use borrow.Author.Needs.{needs}
 use borrow.Author.Tests.{eq-eqb, ne-eqb, lt-ltb, le-ltb, ltb-false, not-false}
 use lib.Dec.{ltb}
 use lib.ListN.{length, getD, List·getD-eq-default}
@@ -44,7 +43,7 @@ module _ (one other : List ℕ) {f : Bool} (e : f ≡ wellFormed one) where
     unfolding firstRefusal formTests
     well-formed u = rw (← e, t, ← d, u)
 
-pub ruleset forming = (needs, first-malformed, second-malformed, well-formed)
+pub ruleset forming = (first-malformed, second-malformed, well-formed)
 
 -- a number above 0 is read within a list, and within a list of such numbers no other is read
 read-within : (ns : List ℕ) (i : ℕ) → 0 < getD ns i 0 → i < length ns
@@ -106,7 +105,7 @@ module _ (one other : List ℕ) {y z : ℕ} (d : y ≡ reportYear one) (e : z �
       unfolding firstRefusal entryTests
       entries-pass o = rw (← d, ← e, eq-eqb y z h, none-shared one other (r .0) (rw f at l), ← g, ← k, le-ltb mostSources (n + m) o)
 
-pub ruleset entering = (needs, years-differ, number-shared, too-many, entries-pass)
+pub ruleset entering = (years-differ, number-shared, too-many, entries-pass)
 
 -- all tests of a combination
 module _ (one other : List ℕ) {v : Verdict} (e : v ≡ firstRefusal (formTests one other)) where
@@ -126,7 +125,7 @@ module _ (one other : List ℕ) {v : Verdict} (e : v ≡ firstRefusal (formTests
     unfolding formTests entryTests
     forms-passed g = g ∙ sym (passed-then (formTests one other) (entryTests one other) (sym e ∙ f))
 
-pub ruleset testing = (needs, forms-refused, both-readable, forms-passed)
+pub ruleset testing = (forms-refused, both-readable, forms-passed)
 
 -- a combination that passes its tests, and one that does not
 module _ (one other buffer : List ℕ) where

@@ -70,7 +70,7 @@ module _ {b keys stored : List ℕ} {k : ℕ} (r : Ready b keys stored) (l : k <
       let s : take (figureCount * index + figureCount - figureCount * index) (drop (figureCount * index) stored) ≡ figures e = rw q (r .stored index (known .below)) in
       rw (n, m, s, entry-stated e (source-massed (sourceAt b index))) at w
 
-pub ruleset entering = (needs, key-there, method-there, figures-there, entry-issued)
+pub ruleset entering = (needs, key-there, method-there, figures-there)
 
 -- the entries of keys, one behind another
 unfoldable pub issued : List ℕ → List ℕ → List ℕ
@@ -159,4 +159,4 @@ module _ {b keys stored : List ℕ} (r : Ready b keys stored) {n : ℕ} (f : Fie
   report-issued {year} {ts} y e w v =
       rw (header-is y e) at (written-then w v (omega (arith, length-header year n ts (totals-each e))))
 
-pub ruleset reporting = (needs, year-there, count-there, summable, totals-each, sources-few, report-issued)
+pub ruleset reporting = (needs, year-there, count-there, summable, totals-each, sources-few)

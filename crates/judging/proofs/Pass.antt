@@ -7,7 +7,6 @@ use native.Mathlib.Decide.{decLt}
 use native.Mathlib.Nat.{add-zero}
 use native.Mathlib.Numerals.{add-one}
 use native.Mathlib.Omega.{arith}
-use borrow.Author.Needs.{needs}
 use borrow.Author.Tests.{eqb-true, not-false, lt-ltb}
 use lib.Dec.{eqb}
 use lib.ListN.{length, getD, drop, length-map, List·getD-map, drop-of-length-le}
@@ -166,4 +165,4 @@ passing-all {b} {kept₀} {kept} {w} {i} h s l =
       stored = λ p k m. s .stored k (omega arith) (none-faulty b (sym sums ∙ p) k m);
     }
 
-pub ruleset passing = (needs, begins-first, begins-at, passing-none, passing-bad, passing-more, passing-all)
+pub ruleset passing = (begins-first, begins-at, passing-none, passing-bad, passing-more, passing-all)

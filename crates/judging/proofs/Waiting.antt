@@ -5,7 +5,6 @@ use mathlib.Core.Path.{_≡_, refl, sym, ap, _∙_}
 use Prim.Native.Nat.{ℕ, suc, _+_}
 use native.Mathlib.Nat.{add-zero, zero-add}
 use native.Mathlib.Omega.{arith}
-use borrow.Author.Needs.{needs}
 use borrow.Author.Tests.{ne-eqb, lt-ltb, le-ltb}
 use lib.Dec.{eqb, ltb}
 use lib.ListN.{length, getD, drop}
@@ -30,7 +29,7 @@ pub waited-later : (w : Verdict) (fault i n p : ℕ) → w ≡ Refuses n p → w
 unfolding waited
 waited-later w fault i n p e = rw e
 
-pub ruleset waiting = (needs, waited-none, waited-first, waited-later)
+pub ruleset waiting = (waited-none, waited-first, waited-later)
 
 -- faults one behind another, from an index on
 unfoldable pub waitedFrom : ℕ → List ℕ → Verdict → Verdict

@@ -4,7 +4,6 @@ use mathlib.Core.Path.{_≡_, refl}
 use Prim.Native.Nat.{ℕ, _+_, _*_, _-_, _≤_, _<_}
 use native.Mathlib.Numerals.{add-one}
 use native.Mathlib.Omega.{arith}
-use borrow.Author.Needs.{needs}
 use borrow.Author.Tests.{lt-ltb, le-ltb}
 use lib.ListN.{length, getD, drop, drop-of-length-le}
 use lib.Seq.{drop-cons}
@@ -56,4 +55,4 @@ module _ {word : List ℕ} {n i : ℕ} (r : Reading word n i) where
           let more = rw (lt-ltb 47 byte (omega arith), lt-ltb byte 58 (omega arith), lt-ltb (n * 10 + (byte - 48)) 4294967296 (omega arith)) at next in
           record { low = omega arith; small = omega arith; rest = more }
 
-pub ruleset reading = (needs, reading-none, reading-empty, reading-all, reading-low, reading-high, reading-past, reading-more)
+pub ruleset reading = (reading-none, reading-empty, reading-all, reading-low, reading-high, reading-past, reading-more)

@@ -50,4 +50,4 @@ module _ (b : List ℕ) (x : ℕ) (buffer : List ℕ) where
       unfolding removed
       removal-made w = rw (← length-removed) (made-gives (removalTests b x) (removedReport b x) buffer tests-pass (rw report-is w))
 
-pub ruleset removing = (needs, removal-malformed, removal-absent, removal-short, removal-made)
+pub ruleset removing = (needs, removal-short)

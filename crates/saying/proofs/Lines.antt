@@ -5,7 +5,6 @@ use Prim.Native.Nat.{ℕ, _+_, _≤_}
 use native.Mathlib.Omega.{arith}
 use mir.Syntax.{w32, w64}
 use mir.Val.{Fits}
-use borrow.Author.Needs.{needs}
 use lib.ListN.{length, length-append}
 use Rattle.basis.specs.Bytes.{ascii, Written}
 use Rattle.basis.proofs.Bytes.{written-then, length-written}
@@ -24,7 +23,7 @@ module _ (n : ℕ) {xs ys : List ℕ} (p : Fits w64 n) (e : length xs ≡ 50) (w
   unfolding acceptedLine
   accepted-put g = fronted (written-then w (g .written) refl) (omega (arith, g .ends))
 
-pub ruleset accepting = (needs, accepted-room, accepted-put)
+pub ruleset accepting = (accepted-room, accepted-put)
 
 -- the line of a refusal: its word, its number, its place
 module _ (number place : ℕ) {xs ys : List ℕ} (n : Fits w32 number) (p : Fits w64 place) (e : 50 ≤ length xs) (w : Written xs 0 (ascii "refused ") ys) where
@@ -50,4 +49,4 @@ module _ (number place : ℕ) {xs ys : List ℕ} (n : Fits w32 number) (p : Fits
         omega (arith, f .ends, g .ends, ap length refusal-parts, length-append (field number 32) (field place 10)) in
         fronted v c
 
-pub ruleset refusing = (needs, number-room, place-room, refusal-put)
+pub ruleset refusing = (number-room, place-room, refusal-put)

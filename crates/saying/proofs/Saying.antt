@@ -3,7 +3,6 @@ use mathlib.Core.List.{List, [], _∷_, _++_}
 use mathlib.Core.Path.{_≡_, refl, sym, ap, _∙_}
 use Prim.Native.Nat.{ℕ, _≤_}
 use native.Mathlib.Omega.{arith}
-use borrow.Author.Needs.{needs}
 use borrow.Author.Tests.{ltb-false, ne-eqb}
 use lib.Dec.{ltb}
 use lib.ListN.{length, take}
@@ -86,4 +85,4 @@ module _ (a : Answer) {xs zs : List ℕ} {n : ℕ} where
   pub refused-said : (a .number ≡ 0 → ⊥) → Fronted xs (refusedLine (a .number) (a .place)) zs n → Fronted xs (answerLine a) zs n
   refused-said e f = rw (said-refused a (acceptedLine (a .length)) e) f
 
-pub ruleset saying = (needs, text-made, text-refused, accepted-said, refused-said)
+pub ruleset saying = (text-made, text-refused, accepted-said, refused-said)

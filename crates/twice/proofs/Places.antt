@@ -6,7 +6,6 @@ use mathlib.Core.Path.{_≡_, refl, sym, ap, _∙_}
 use Prim.Native.Nat.{ℕ, _+_, _*_, _/_, _%_, _≤_, _<_}
 use native.Mathlib.Decide.{decLt}
 use native.Mathlib.Omega.{arith}
-use borrow.Author.Needs.{needs}
 use borrow.Author.Tests.{eqb-true, eqb-false, not-true, not-false}
 use lib.Dec.{eqb}
 use lib.ListN.{length, getD, set, length-set, replicate, length-replicate}
@@ -114,7 +113,7 @@ pass-more {t} {x} {home} {at} p l e =
           };
     }
 
-pub ruleset passing = (needs, home-is, pass-none, pass-more)
+pub ruleset passing = (home-is, pass-none, pass-more)
 
 -- the numbers before i stand, none twice, and no other does
 pub record Kept (ns t : List ℕ) (i : ℕ) : Type 0 where
@@ -182,4 +181,4 @@ module _ {ns t : List ℕ} {i : ℕ} (k : Kept ns t i) where
 pub all-free : Empty (replicate placeCount 0)
 all-free = record { all = length-replicate {A = ℕ} placeCount 0; free = λ p. ap (λ (l : List ℕ). getD l p 0) (sym (take-length (replicate placeCount 0))) ∙ zeros-front placeCount (length {A = ℕ} (replicate placeCount 0)) p }
 
-pub ruleset keeping = (needs, keep-none, keep-more, keep-all, keep-away)
+pub ruleset keeping = (keep-none, keep-more, keep-all, keep-away)

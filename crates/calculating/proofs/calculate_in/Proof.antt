@@ -17,4 +17,4 @@ calculate-in-spec =
     (λ c. search needs)
     (search needs)
     (search needs)
-    (λ c. search (needs, register-refused)))
+    (λ c. search register-refused))

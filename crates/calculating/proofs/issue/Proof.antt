@@ -1,6 +1,6 @@
 use native.Mathlib.Omega.{arith}
 use borrow.Author.Needs.{needs}
-use Rattle.calculating.proofs.Calculating.{ready-long, issued}
+use Rattle.calculating.proofs.Calculating.{ready-long, issued-short, issued-room, issued-made}
 use Rattle.calculating.proofs.issue.Statement.{statement}
 use Rattle.calculating.proofs.issue.Tie as tie
 
@@ -10,7 +10,7 @@ issue-spec =
     (tie.spec
     (λ c κs. omega (arith, ready-long (c .before .before .before .before .pre .0)))
     (search needs)
-    (λ c. search issued)
-    (λ c κs. search issued)
+    (λ c. search issued-short)
+    (λ c κs. search issued-room)
     (search needs)
-    (λ c. search issued))
+    (λ c. search issued-made))

@@ -15,4 +15,4 @@ judge-spec =
     (search needs)
     (λ c. search needs)
     (search needs)
-    (λ c. search (needs, source-refused)))
+    (λ c. search source-refused))

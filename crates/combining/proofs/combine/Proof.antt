@@ -13,4 +13,4 @@ combine-spec =
     (λ c. search needs)
     (λ c. search needs)
     (λ c. search needs)
-    (λ c. search (needs, combination-refused)))
+    (λ c. search combination-refused))

@@ -1,3 +1,4 @@
+use borrow.Author.Needs.{needs}
 use Rattle.combining.proofs.Answered.{entering}
 use Rattle.combining.proofs.test_entries.Statement.{statement}
 use Rattle.combining.proofs.test_entries.Tie as tie
@@ -12,7 +13,7 @@ test-entries-spec =
     (λ c κs. search entering)
     (λ c κs. search entering)
     (λ c κs. search entering)
-    (λ c. search entering)
+    (λ c. search (needs, entering))
     (λ c. search entering)
     (λ c. search entering)
     (λ c. search entering))

@@ -12,4 +12,4 @@ hundreds-spec =
     (search needs)
     (search needs)
     (search needs)
-    (λ c. search (needs, hundreds-are)))
+    (λ c. search hundreds-are))

@@ -14,4 +14,4 @@ tens-spec =
     (search needs)
     (search needs)
     (search needs)
-    (λ c. search (needs, tens-are)))
+    (λ c. search tens-are))

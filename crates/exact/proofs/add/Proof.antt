@@ -13,5 +13,5 @@ add-spec =
     (search needs)
     (search needs)
     (omega arith)
-    (λ c. search (needs, added-fits))
-    (λ c. search (needs, added-parted)))
+    (λ c. search added-fits)
+    (λ c. search added-parted))

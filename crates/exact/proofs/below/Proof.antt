@@ -1,7 +1,6 @@
-use borrow.Author.Needs.{needs}
 use Rattle.exact.proofs.Amounts.{below-in-low, below-in-high}
 use Rattle.exact.proofs.below.Statement.{statement}
 use Rattle.exact.proofs.below.Tie as tie
 
 pub below-spec : {M : Type 1} → statement M
-below-spec = tie.close (tie.spec (λ c. search (needs, below-in-low)) (λ c. search (needs, below-in-high)))
+below-spec = tie.close (tie.spec (λ c. search below-in-low) (λ c. search below-in-high))

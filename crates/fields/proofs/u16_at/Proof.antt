@@ -12,4 +12,4 @@ u16-at-spec =
     (search needs)
     (search needs)
     (search needs)
-    (λ c. search (needs, field-two)))
+    (λ c. search field-two))

@@ -16,4 +16,4 @@ u32-at-spec =
     (search needs)
     (search needs)
     (search needs)
-    (λ c. search (needs, field-four)))
+    (λ c. search field-four))

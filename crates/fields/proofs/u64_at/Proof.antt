@@ -12,4 +12,4 @@ u64-at-spec =
     (search needs)
     (search needs)
     (search needs)
-    (λ c. search (needs, field-eight)))
+    (λ c. search field-eight))

@@ -1,5 +1,5 @@
 use borrow.Author.Needs.{needs}
-use Rattle.issuing.proofs.Issuing.{entering}
+use Rattle.issuing.proofs.Issuing.{entry-issued, entering}
 use Rattle.issuing.proofs.put_source.Statement.{statement}
 use Rattle.issuing.proofs.put_source.Tie as tie
 
@@ -23,4 +23,4 @@ put-source-spec =
     (λ c. search entering)
     (search needs)
     (search needs)
-    (λ c. search entering))
+    (λ c. search entry-issued))

@@ -1,5 +1,5 @@
 use borrow.Author.Needs.{needs}
-use Rattle.issuing.proofs.Issuing.{reporting}
+use Rattle.issuing.proofs.Issuing.{report-issued, reporting}
 use Rattle.issuing.proofs.write_report.Statement.{statement}
 use Rattle.issuing.proofs.write_report.Tie as tie
 
@@ -14,4 +14,4 @@ write-report-spec =
     (λ c κs. search reporting)
     (λ c κs. search reporting)
     (search needs)
-    (λ c. search reporting))
+    (λ c. search report-issued))

@@ -2,6 +2,7 @@ use Prim.Native.Nat.{_-_}
 use native.Mathlib.Omega.{arith}
 use borrow.Author.Tests.{not-true, not-false}
 use mathlib.Core.Path.{_≡_}
+use borrow.Author.Needs.{needs}
 use Rattle.meaning.specs.Register.{linesAt, sourceCount, lineStart}
 use Rattle.judging.proofs.Pass.{Passing, begins-first, begins-next, passing-bad, passing-more, passing-all, passing}
 use Rattle.judging.proofs.judge_sources.Statement.{statement}
@@ -28,7 +29,7 @@ judge-sources-spec =
     (λ c. search passing)
     (λ c. passing-bad (c .before .before .before .before .before .before .before .pre .0) (c .before .before .before .loop .inv .0) (omega arith) (c .before .judge-entry .ensures) (not-true _ (c .if1 .taken)))
     (λ c. omega arith)
-    (λ c. search passing)
+    (λ c. search (needs, passing))
     (λ c κs. omega arith)
     (λ c κs. search passing)
     (λ c. omega arith)

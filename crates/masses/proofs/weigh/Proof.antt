@@ -10,6 +10,6 @@ weigh-spec =
     (λ c. search needs)
     (λ c. search needs)
     (λ c. search needs)
-    (λ c. search (needs, weighed-above))
+    (λ c. search weighed-above)
     (λ c. search needs)
-    (λ c. search (needs, weighed-within)))
+    (λ c. search weighed-within))

@@ -1,4 +1,5 @@
 use Prim.Native.Nat.{_-_}
+use borrow.Author.Needs.{needs}
 use lib.ListN.{length}
 use Rattle.numerals.proofs.Digits.{Reading, reading}
 use Rattle.numerals.proofs.number_in.Statement.{statement}
@@ -22,11 +23,11 @@ number-in-spec =
     (λ c κs. search reading)
     (λ c. search reading)
     (λ c. search reading)
+    (λ c. search (needs, reading))
+    (λ c. search (needs, reading))
     (λ c. search reading)
-    (λ c. search reading)
-    (λ c. search reading)
-    (λ c. search reading)
-    (λ c. search reading)
+    (λ c. search (needs, reading))
+    (λ c. search (needs, reading))
     (λ c. search reading)
     (λ c. search reading)
     (λ c. search reading))

@@ -12,4 +12,4 @@ remove-spec =
     (λ c κs. search (needs, readable))
     (λ c. search needs)
     (λ c. search needs)
-    (λ c. search (needs, removal-malformed)))
+    (λ c. search removal-malformed))

@@ -1,4 +1,4 @@
-use Rattle.removing.proofs.Answered.{removing}
+use Rattle.removing.proofs.Answered.{removal-absent, removal-made, removing}
 use Rattle.removing.proofs.remove_entry.Statement.{statement}
 use Rattle.removing.proofs.remove_entry.Tie as tie
 
@@ -8,11 +8,11 @@ remove-entry-spec =
     (tie.spec
     (λ c κs. search removing)
     (λ c κs. search removing)
-    (λ c. search removing)
+    (λ c. search removal-absent)
     (λ c. search removing)
     (λ c. search removing)
     (λ c. search removing)
     (λ c. search removing)
     (λ c κs. search removing)
     (λ c. search removing)
-    (λ c. search removing))
+    (λ c. search removal-made))

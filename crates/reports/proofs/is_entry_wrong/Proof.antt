@@ -12,5 +12,5 @@ is-entry-wrong-spec =
     (search needs)
     (search needs)
     (search needs)
-    (λ c. search (needs, front-right))
-    (λ c. search (needs, front-wrong)))
+    (λ c. search front-right)
+    (λ c. search front-wrong))

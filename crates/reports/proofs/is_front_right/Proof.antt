@@ -11,4 +11,4 @@ is-front-right-spec =
     (search needs)
     (search needs)
     (search needs)
-    (λ c. search (needs, front-judged)))
+    (λ c. search front-judged))

@@ -14,4 +14,4 @@ is-header-right-spec =
     (search needs)
     (search needs)
     (search needs)
-    (λ c. search (needs, header-judged)))
+    (λ c. search header-judged))

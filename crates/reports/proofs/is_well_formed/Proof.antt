@@ -7,9 +7,9 @@ pub is-well-formed-spec : {M : Type 1} → statement M
 is-well-formed-spec =
     tie.close
     (tie.spec
-    (λ c. search (needs, too-short))
+    (λ c. search too-short)
     (search needs)
     (search needs)
     (λ c κs. search (needs, header-length, header-few))
-    (λ c. search (needs, entries-judged))
-    (λ c. search (needs, header-wrong)))
+    (λ c. search entries-judged)
+    (λ c. search header-wrong))

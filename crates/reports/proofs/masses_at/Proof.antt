@@ -10,4 +10,4 @@ masses-at-spec =
     (search needs)
     (search needs)
     (search needs)
-    (λ c. search (needs, masses-read)))
+    (λ c. search masses-read))

@@ -11,4 +11,4 @@ put-count-spec =
     (search needs)
     (search needs)
     (search needs)
-    (λ c. search (needs, packed-three)))
+    (λ c. search packed-three))

@@ -16,4 +16,4 @@ put-entry-spec =
     (search needs)
     (search needs)
     (search needs)
-    (λ c. search (needs, entry-written)))
+    (λ c. search entry-written))

@@ -11,4 +11,4 @@ put-entry-front-spec =
     (search needs)
     (search needs)
     (search needs)
-    (λ c. search (needs, entry-fronted)))
+    (λ c. search entry-fronted))

@@ -10,4 +10,4 @@ put-header-spec =
     (search needs)
     (search needs)
     (search needs)
-    (λ c. search (needs, header-written)))
+    (λ c. search header-written))

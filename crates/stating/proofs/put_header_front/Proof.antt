@@ -11,4 +11,4 @@ put-header-front-spec =
     (search needs)
     (search needs)
     (search needs)
-    (λ c. search (needs, front-written)))
+    (λ c. search front-written))

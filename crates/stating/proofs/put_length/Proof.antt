@@ -11,4 +11,4 @@ put-length-spec =
     (search needs)
     (search needs)
     (search needs)
-    (λ c. search (needs, length-put)))
+    (λ c. search length-put))

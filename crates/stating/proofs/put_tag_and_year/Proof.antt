@@ -12,4 +12,4 @@ put-tag-and-year-spec =
     (search needs)
     (search needs)
     (search needs)
-    (λ c. search (needs, tag-written)))
+    (λ c. search tag-written))

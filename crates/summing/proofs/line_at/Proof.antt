@@ -18,4 +18,4 @@ line-at-spec =
     (search needs)
     (search needs)
     (search needs)
-    (λ c. search (needs, line-read)))
+    (λ c. search line-read))

@@ -18,16 +18,16 @@ read-lines-spec =
     (tie.spec
     Inv-loop
     μ-loop
-    (λ c. search (needs, summed-none))
+    (λ c. search summed-none)
     (λ c. omega arith)
     (λ c. omega arith)
     (λ c κs. omega arith)
     (λ c κs. search needs)
     (λ c. search needs)
     (λ c. search needs)
-    (λ c. search (needs, reads-stop))
+    (λ c. search reads-stop)
     (λ c κs. let f = good-fits (c .before .before .before .decode .ensures .1) (c .before .decoded .given .1) in (search (needs, roomy-one), f .0, f .1))
     (λ c. omega arith)
     (λ c. omega arith)
     (λ c. summed-turn (c .before .before .before .before .before .before .before .before .before .pre) (search needs) (omega arith) (c .before .before .before .before .before .line-at .ensures) (c .before .before .before .before .decode .ensures) (c .before .before .decoded .given .1) (c .with-line .ensures))
-    (λ c. search (needs, reads-all)))
+    (λ c. search reads-all))

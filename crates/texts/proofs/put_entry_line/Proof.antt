@@ -16,4 +16,4 @@ put-entry-line-spec =
     (λ c κs. (search needs, search (needs, entry-figures)))
     (λ c κs. search (needs, entry-pair))
     (search needs)
-    (λ c. search (needs, entry-put)))
+    (λ c. search entry-put))

@@ -17,4 +17,4 @@ put-figures-spec =
     (λ c κs. search (needs, figures-second))
     (λ c κs. search (needs, figures-first))
     (search needs)
-    (λ c. search (needs, figures-put)))
+    (λ c. search figures-put))

@@ -12,4 +12,4 @@ put-front-spec =
     (λ c κs. search (needs, year-room))
     (λ c κs. search (needs, count-room))
     (search needs)
-    (λ c. search (needs, front-written)))
+    (λ c. search front-written))

@@ -10,8 +10,8 @@ text-spec =
     (tie.spec
     (search needs)
     (λ c κs. search (needs, readable))
-    (λ c. search (needs, text-short))
+    (λ c. search text-short)
     (λ c κs. search (needs, readable))
     (λ c. search needs)
-    (λ c. search (needs, text-made))
-    (λ c. search (needs, text-wrong)))
+    (λ c. search text-made)
+    (λ c. search text-wrong))

@@ -1,4 +1,5 @@
 use Prim.Native.Nat.{_-_}
+use borrow.Author.Needs.{needs}
 use lib.ListN.{length}
 use Rattle.twice.proofs.Places.{Kept, keeping}
 use Rattle.twice.proofs.place_all.Statement.{statement}
@@ -17,18 +18,18 @@ place-all-spec =
     Inv-loop
     μ-loop
     (λ c. search keeping)
+    (λ c. search (needs, keeping))
     (λ c. search keeping)
+    (λ c κs. search keeping)
+    (λ c. search (needs, keeping))
     (λ c. search keeping)
     (λ c κs. search keeping)
     (λ c. search keeping)
     (λ c. search keeping)
-    (λ c κs. search keeping)
+    (λ c. search (needs, keeping))
     (λ c. search keeping)
-    (λ c. search keeping)
-    (λ c. search keeping)
-    (λ c. search keeping)
-    (λ c. search keeping)
-    (λ c. search keeping)
+    (λ c. search (needs, keeping))
+    (λ c. search (needs, keeping))
     (λ c. search keeping)
     (λ c. search keeping)
     (λ c. search keeping))

@@ -1,4 +1,5 @@
 use Prim.Native.Nat.{_-_}
+use borrow.Author.Needs.{needs}
 use lib.ListN.{length}
 use Rattle.twice.proofs.Places.{Passing, passing}
 use Rattle.twice.proofs.place_for.Statement.{statement}
@@ -18,11 +19,11 @@ place-for-spec =
     μ-loop
     (λ c κs. search passing)
     (λ c. search passing)
+    (λ c. search (needs, passing))
+    (λ c. search (needs, passing))
     (λ c. search passing)
     (λ c. search passing)
-    (λ c. search passing)
-    (λ c. search passing)
-    (λ c. search passing)
-    (λ c. search passing)
+    (λ c. search (needs, passing))
+    (λ c. search (needs, passing))
     (λ c. search passing)
     (λ c. search passing))

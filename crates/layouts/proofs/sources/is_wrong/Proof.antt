@@ -1,5 +1,4 @@
 use native.Mathlib.Omega.{arith}
-use borrow.Author.Needs.{needs}
 use Rattle.layouts.proofs.sources.Entries.{entries, wrong-unnamed}
 use Rattle.layouts.proofs.sources.is_wrong.Statement.{statement}
 use Rattle.layouts.proofs.sources.is_wrong.Tie as tie
@@ -14,4 +13,4 @@ is-wrong-spec =
     (λ c. search entries)
     (λ c κs. search entries)
     (λ c. search entries)
-    (λ c. search (needs, wrong-unnamed)))
+    (λ c. search wrong-unnamed))

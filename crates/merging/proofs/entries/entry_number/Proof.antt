@@ -10,4 +10,4 @@ entry-number-spec =
     (search needs)
     (search needs)
     (search needs)
-    (λ c. search (needs, number-read)))
+    (λ c. search number-read))

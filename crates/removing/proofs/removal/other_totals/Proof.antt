@@ -14,4 +14,4 @@ other-totals-spec =
     (λ c. search needs)
     (λ c. search needs)
     (λ c κs. search (needs, others-held))
-    (λ c. search (needs, others-taken)))
+    (λ c. search others-taken))

@@ -16,4 +16,4 @@ put-other-entries-spec =
     (λ c. search needs)
     (λ c κs. search needs)
     (λ c. search needs)
-    (λ c. search (needs, others-written)))
+    (λ c. search others-written))

@@ -14,4 +14,4 @@ put-other-header-spec =
     (λ c. search needs)
     (λ c κs. search needs)
     (λ c. search needs)
-    (λ c. search (needs, other-header)))
+    (λ c. search other-header))

@@ -10,4 +10,4 @@ put-others-spec =
     (λ c κs. search needs)
     (λ c κs. search needs)
     (λ c. search needs)
-    (λ c. search (needs, report-written)))
+    (λ c. search report-written))
