@@ -60,13 +60,13 @@ fn named_of_two(name: Found) -> Reply {
 // The call that a record's first byte names.
 fn make_call(call: u64, first: &[u8], second: &[u8], number: u32, buffer: &mut [u8]) -> Reply {
     match call {
-        1 => answered(calculating::calculate(first, buffer)),
-        2 => answered(combining::combine(first, second, buffer)),
-        3 => answered(removing::remove(first, number, buffer)),
-        4 => answered(reports::check(first)),
-        5 => texted(texts::text(first, buffer)),
-        6 => named(names::name_place(first, number)),
-        _ => named_of_two(names::name_place_of_two(first, second, number)),
+        1 => answered(kopristen::kopristen_calculate(first, buffer)),
+        2 => answered(kopristen::kopristen_combine(first, second, buffer)),
+        3 => answered(kopristen::kopristen_remove(first, number, buffer)),
+        4 => answered(kopristen::kopristen_check(first)),
+        5 => texted(kopristen::kopristen_text(first, buffer)),
+        6 => named(kopristen::kopristen_name(first, number)),
+        _ => named_of_two(kopristen::kopristen_name_of_two(first, second, number)),
     }
 }
 
