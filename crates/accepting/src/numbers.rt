@@ -4,7 +4,7 @@ ghost use lib.ListN.{length};
 ghost use Rattle.basis.specs.Answers.{passes};
 ghost use Rattle.meaning.specs.Register.{sourceCount, sourcesOf, repeatTest};
 ghost use Rattle.twice.specs.Twice.{Nonzero};
-ghost use Rattle.layouts.specs.Layout.{Headed};
+ghost use Rattle.headers.specs.Header.{Headed};
 ghost use Rattle.accepting.specs.Numbers.{numbersOf, Tells};
 use basis::Verdict;
 use layouts::u32_in;

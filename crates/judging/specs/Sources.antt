@@ -8,7 +8,7 @@ use lib.ListN.{length, take, drop}
 use Rattle.basis.specs.declared.Verdict.the-variants.{Passes, Refuses}
 use Rattle.basis.specs.declared.Verdict.{Verdict}
 use Rattle.basis.specs.Answers.{firstRefusal}
-use Rattle.layouts.specs.Layout.{Headed}
+use Rattle.headers.specs.Header.{Headed}
 use Rattle.meaning.specs.Methods.{isBad, decoded}
 use Rattle.meaning.specs.Register.{linesAt, lineAt, sourceEntry, methodIn, parameterIn, firstLineIn, lineCountIn, sourceAt, sourceCount, sourcesOf, registerTests}
 use Rattle.meaning.specs.Report.{entryOf, figures, figureCount}

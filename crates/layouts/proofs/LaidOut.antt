@@ -3,7 +3,6 @@ use mathlib.Core.Bool.{false}
 use mathlib.Core.List.{List, [], _∷_}
 use mathlib.Core.Path.{_≡_, sym, _∙_}
 use Prim.Native.Nat.{ℕ, _≤_, _<_}
-use borrow.Author.Needs.{needs}
 use borrow.Author.Tests.{lt-ltb, le-ltb}
 use lib.ListN.{length}
 use Rattle.basis.specs.declared.Verdict.{Verdict}
@@ -11,8 +10,9 @@ use Rattle.basis.specs.declared.Verdict.the-variants.{Passes, Refuses}
 use Rattle.basis.specs.Answers.{firstRefusal}
 use Rattle.basis.proofs.Answers.{passed-then, refused-then, each-passes, passed-append, passed-at-all}
 use Rattle.meaning.specs.Register.{sourcesAt, sourceCount, lengthTest, headerTests, wrongSource, sourceTest, restTest}
-use Rattle.layouts.specs.Layout.{layoutTests, Headed}
-use Rattle.layouts.proofs.Headed.{headed}
+use Rattle.headers.specs.Header.{Headed}
+use Rattle.headers.proofs.Headed.{headed}
+use Rattle.layouts.specs.Layout.{layoutTests}
 use Rattle.layouts.proofs.sources.Passing.{overSources}
 
 module _ (b : List ℕ) where
@@ -44,5 +44,3 @@ module _ (b : List ℕ) where
     layout-right f =
         let back = passed-append (lengthTest b ∷ headerTests b) (sourceTest b ∷ restTest b ∷ []) (sym e ∙ f) .1 in
         passed-at-all 3 (wrongSource b) (sourceCount b) .0 (each-passes (sourceTest b ∷ restTest b ∷ []) back .0)
-
-pub ruleset layout = (needs, short, header-passes, header-refused, header-passed)

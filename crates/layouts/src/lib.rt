@@ -1,15 +1,12 @@
 // Document 01, "The register": how it is laid out, which its tests 1 to 3 ask, and the fields of a source's entry.
-mod header;
 mod sources;
 
 ghost use mathlib.Core.Path.{_≡_};
 ghost use Rattle.basis.specs.Answers.{firstRefusal};
 ghost use Rattle.layouts.specs.Layout.{layoutTests};
 use basis::Verdict;
-pub use header::MOST;
-pub use header::SOURCES;
-pub use header::refuse_if;
-use header::test_header;
+use headers::SOURCES;
+use headers::test_header;
 pub use sources::name_start;
 pub use sources::part;
 use sources::test_sources;

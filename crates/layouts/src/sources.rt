@@ -10,12 +10,13 @@ ghost use Rattle.fields.specs.Fields.{Field};
 ghost use Rattle.meaning.specs.Methods.{listed};
 ghost use Rattle.meaning.specs.Register.{sourceLength, sourceEntry, namePlace, sourceAt, lineStart, nameStart, misplaced, badNameByte, unsound, wrongSource, sourceTest, restTest};
 ghost use Rattle.meaning.specs.Parts.{IsPart};
-ghost use Rattle.layouts.specs.Layout.{Headed, HasEntry, HasName, Begins, allNames};
-use super::header::LINE;
-use super::header::SOURCE;
-use super::header::SOURCES;
-use super::header::refuse_if;
+ghost use Rattle.headers.specs.Header.{Headed, HasEntry};
+ghost use Rattle.layouts.specs.Layout.{HasName, Begins, allNames};
 use basis::Verdict;
+use headers::LINE;
+use headers::SOURCE;
+use headers::SOURCES;
+use headers::refuse_if;
 
 // A field of 1 byte of entry i, at a place in the entry; then of 2 and of 4.
 fn u8_in(register: &[u8], i: usize, at: usize) -> u64

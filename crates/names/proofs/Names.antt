@@ -19,7 +19,7 @@ use Rattle.meaning.specs.Register.{sourceCount, sourceEntry, namePlace, sourceA
 use Rattle.meaning.specs.Calls.{accepted, hasNumber, indexOf, holds, nameAt, found, inRegister, foundOfTwo}
 use Rattle.meaning.proofs.Registers.{right-register}
 use Rattle.meaning.proofs.Sources.{Placed, placed}
-use Rattle.layouts.specs.Layout.{Headed, HasEntry}
+use Rattle.headers.specs.Header.{Headed, HasEntry}
 use Rattle.registers.proofs.Tested.{passed-headed}
 use Rattle.names.specs.declared.Sought.{Sought}
 use Rattle.names.specs.Lookups.{Seeks}

@@ -3,7 +3,7 @@ ghost use mathlib.Core.Bool.{true};
 ghost use mathlib.Core.Path.{_≡_};
 ghost use Rattle.meaning.specs.Calls.{accepted, indexOf, nameAt, inRegister, found, foundOfTwo};
 ghost use Rattle.meaning.specs.Parts.{IsName, IsNameOfEither};
-ghost use Rattle.layouts.specs.Layout.{Headed, HasEntry};
+ghost use Rattle.headers.specs.Header.{Headed, HasEntry};
 ghost use Rattle.names.specs.Lookups.{Seeks};
 use accepting::accepts;
 use layouts::name_start;

@@ -5,7 +5,6 @@ use mathlib.Core.Path.{_≡_, refl, sym, ap, _∙_}
 use Prim.Native.Nat.{ℕ, _+_, _-_, _≤_, _<_}
 use native.Mathlib.Numerals.{add-one}
 use native.Mathlib.Omega.{arith}
-use borrow.Author.Needs.{needs}
 use lib.Dec.{eqb, ltb}
 use lib.ListN.{length, getD, take, drop, length-map, length-drop, drop-of-length-le, take-append-drop}
 use lib.Seq.{drop-cons, drop-drop, take-all, length-take-le}
@@ -15,13 +14,13 @@ use Rattle.basis.proofs.Bools.{or-assoc, or-none}
 use Rattle.basis.proofs.Counting.{any-append}
 use Rattle.basis.proofs.Lists.{length-countUp}
 use Rattle.fields.specs.Fields.{Field}
-use Rattle.fields.proofs.Laws.{field-behind}
 use Rattle.meaning.specs.Methods.{listed, within}
 use Rattle.meaning.specs.Register.{sourceCount, lineCount, namesAt, sourceEntry, nameLengthIn, nameOffsetIn, namePlace, sourceAt, lineStart, nameStart, misplaced, badNameByte, unsound, wrongSource}
 use Rattle.meaning.proofs.Sources.{placed}
-use Rattle.layouts.specs.Layout.{HasEntry, HasName, Begins, allNames}
+use Rattle.headers.specs.Header.{HasEntry}
+use Rattle.layouts.specs.Layout.{HasName, Begins, allNames}
 
--- of n sources, each below n has its entry
+-- what the fields of entry i say of its lines and its name
 module _ (b : List ℕ) (i : ℕ) where
   pub line-end : {first count : ℕ} → Field 2 (sourceEntry b i) 8 first → Field 2 (sourceEntry b i) 6 count → first + count ≡ lineStart b (i + 1)
   unfolding lineStart
@@ -118,6 +117,3 @@ module _ (b : List ℕ) (i : ℕ) {place : Bool} (p : place ≡ misplaced b i) w
     pub wrong-named : {bad : Bool} → stated ≡ false → bad ≡ any badNameByte (sourceAt b i .name) → bad ≡ wrongSource b i
     unfolding wrongSource
     wrong-named e f = rw (← p, q, ← s, e) f
-
-pub ruleset entries =
-    (needs, field-behind, line-end, name-end, misplaced-is, has-name, misstated-is, name-is, names-are, look-none, look-more, look-all, wrong-misplaced, wrong-misstated, wrong-unnamed, wrong-named)

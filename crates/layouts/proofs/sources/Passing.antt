@@ -4,7 +4,6 @@ use mathlib.Core.List.{List, [], _∷_}
 use mathlib.Core.Path.{_≡_, refl, sym, _∙_}
 use Prim.Native.Nat.{ℕ, _+_, _≤_, _<_}
 use native.Mathlib.Omega.{arith}
-use borrow.Author.Needs.{needs}
 use borrow.Author.Tests.{lt-ltb, le-ltb}
 use lib.Dec.{eqb}
 use Rattle.basis.specs.declared.Verdict.{Verdict}
@@ -13,9 +12,9 @@ use Rattle.basis.specs.First.{first}
 use Rattle.basis.specs.Answers.{refuseAtFirst, firstRefusal}
 use Rattle.fields.specs.Fields.{Field}
 use Rattle.meaning.specs.Register.{sourceCount, lineStart, nameStart, wrongSource, sourceTest, restTest}
-use Rattle.layouts.specs.Layout.{Headed, Begins}
-use Rattle.layouts.proofs.header.Laws.{heard}
-use Rattle.layouts.proofs.Headed.{has-entry}
+use Rattle.headers.specs.Header.{Headed}
+use Rattle.headers.proofs.Laws.{heard}
+use Rattle.layouts.specs.Layout.{Begins}
 use Rattle.basis.proofs.Scans.{Scanning, scan-none, scan-found, scan-more, scan-all}
 
 -- the entries before i are right, and the next has to begin at a line and a name byte
@@ -51,5 +50,3 @@ module _ {b : List ℕ} {n i line byte : ℕ} (p : Passing b n i line byte) wher
       let k : i ≡ n = omega (arith, p .scanning .low) in
       let l : n ≡ first (wrongSource b) n = rw k at (scan-all (p .scanning) h) in
       e ∙ rw (p .begins .atLine, p .begins .atByte, k, f .is, g .is, ← p .all, ← l, le-ltb n n (omega arith), heard, heard)
-
-pub ruleset passing = (needs, has-entry, passing-none, passing-wrong, passing-more, passing-all)

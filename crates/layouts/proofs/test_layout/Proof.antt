@@ -1,5 +1,5 @@
 use native.Mathlib.Omega.{arith}
-use Rattle.layouts.proofs.LaidOut.{layout}
+use Rattle.layouts.proofs.LaidOut.{short, header-passes, header-refused, header-passed}
 use Rattle.layouts.proofs.test_layout.Statement.{statement}
 use Rattle.layouts.proofs.test_layout.Tie as tie
 
@@ -7,10 +7,10 @@ pub test-layout-spec : {M : Type 1} → statement M
 test-layout-spec =
     tie.close
     (tie.spec
-    (λ c. search layout)
+    (λ c. search short)
     (omega arith)
     (omega arith)
     (omega arith)
-    (λ c. search layout)
-    (λ c κs. search layout)
-    (λ c. search layout))
+    (λ c. search header-refused)
+    (λ c κs. search header-passes)
+    (λ c. search header-passed))

@@ -1,6 +1,7 @@
 use Prim.Native.Nat.{_-_}
+use native.Mathlib.Omega.{arith}
 use lib.ListN.{length}
-use Rattle.layouts.proofs.sources.Entries.{Looked, entries}
+use Rattle.layouts.proofs.sources.Entries.{Looked, look-none, look-more, look-all}
 use Rattle.layouts.proofs.sources.has_bad_byte.Statement.{statement}
 use Rattle.layouts.proofs.sources.has_bad_byte.Tie as tie
 
@@ -16,9 +17,9 @@ has-bad-byte-spec =
     (tie.spec
     Inv-loop
     μ-loop
-    (λ c. search entries)
-    (λ c. search entries)
-    (λ c. search entries)
-    (λ c. search entries)
-    (λ c. search entries)
-    (λ c. search entries))
+    (λ c. search look-none)
+    (omega arith)
+    (omega arith)
+    (omega arith)
+    (λ c. search look-more)
+    (λ c. search look-all))

@@ -1,5 +1,5 @@
 use native.Mathlib.Omega.{arith}
-use Rattle.layouts.proofs.sources.Entries.{entries}
+use Rattle.layouts.proofs.sources.Entries.{name-is}
 use Rattle.layouts.proofs.sources.has_bad_name.Statement.{statement}
 use Rattle.layouts.proofs.sources.has_bad_name.Tie as tie
 
@@ -11,4 +11,4 @@ has-bad-name-spec =
     (omega arith)
     (omega arith)
     (omega arith)
-    (λ c. search entries))
+    (λ c. search name-is))

@@ -1,4 +1,5 @@
-use Rattle.layouts.proofs.sources.Entries.{entries}
+use native.Mathlib.Omega.{arith}
+use Rattle.layouts.proofs.sources.Entries.{names-are}
 use Rattle.layouts.proofs.sources.has_bad_names.Statement.{statement}
 use Rattle.layouts.proofs.sources.has_bad_names.Tie as tie
 
@@ -6,13 +7,13 @@ pub has-bad-names-spec : {M : Type 1} → statement M
 has-bad-names-spec =
     tie.close
     (tie.spec
-    (λ c κs. search entries)
-    (λ c κs. search entries)
-    (λ c. search entries)
-    (λ c. search entries)
-    (λ c. search entries)
-    (λ c. search entries)
-    (λ c. search entries)
-    (λ c κs. search entries)
-    (λ c κs. search entries)
-    (λ c. search entries))
+    (omega arith)
+    (omega arith)
+    (omega arith)
+    (omega arith)
+    (omega arith)
+    (omega arith)
+    (omega arith)
+    (omega arith)
+    (omega arith)
+    (λ c. search names-are))

@@ -1,5 +1,5 @@
 use native.Mathlib.Omega.{arith}
-use Rattle.layouts.proofs.sources.Entries.{entries, wrong-unnamed}
+use Rattle.layouts.proofs.sources.Entries.{has-name, wrong-misplaced, wrong-misstated, wrong-unnamed, wrong-named}
 use Rattle.layouts.proofs.sources.is_wrong.Statement.{statement}
 use Rattle.layouts.proofs.sources.is_wrong.Tie as tie
 
@@ -8,9 +8,9 @@ is-wrong-spec =
     tie.close
     (tie.spec
     (omega arith)
-    (λ c. search entries)
-    (λ c κs. search entries)
-    (λ c. search entries)
-    (λ c κs. search entries)
-    (λ c. search entries)
+    (λ c. search wrong-misplaced)
+    (λ c κs. search has-name)
+    (λ c. search wrong-misstated)
+    (λ c κs. search has-name)
+    (λ c. search wrong-named)
     (λ c. search wrong-unnamed))

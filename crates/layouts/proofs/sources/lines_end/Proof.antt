@@ -1,5 +1,5 @@
 use native.Mathlib.Omega.{arith}
-use Rattle.layouts.proofs.sources.Entries.{entries}
+use Rattle.layouts.proofs.sources.Entries.{line-end}
 use Rattle.layouts.proofs.sources.lines_end.Statement.{statement}
 use Rattle.layouts.proofs.sources.lines_end.Tie as tie
 
@@ -10,4 +10,4 @@ lines-end-spec =
     (omega arith)
     (omega arith)
     (omega arith)
-    (λ c. search entries))
+    (λ c. search line-end))

@@ -1,5 +1,5 @@
 use native.Mathlib.Omega.{arith}
-use Rattle.layouts.proofs.sources.Entries.{entries}
+use Rattle.layouts.proofs.sources.Entries.{name-end}
 use Rattle.layouts.proofs.sources.name_end.Statement.{statement}
 use Rattle.layouts.proofs.sources.name_end.Tie as tie
 
@@ -10,4 +10,4 @@ name-end-spec =
     (omega arith)
     (omega arith)
     (omega arith)
-    (λ c. search entries))
+    (λ c. search name-end))

@@ -1,6 +1,5 @@
 use native.Mathlib.Omega.{arith}
 use native.Mathlib.Nat.{add-sub-cancel-left}
-use borrow.Author.Needs.{needs}
 use Rattle.layouts.proofs.sources.part.Statement.{statement}
 use Rattle.layouts.proofs.sources.part.Tie as tie
 
@@ -12,4 +11,4 @@ part-spec =
     (omega arith)
     (omega arith)
     (omega arith)
-    (λ c. record { holds = rw add-sub-cancel-left; stands = search needs }))
+    (λ c. record { holds = rw add-sub-cancel-left; stands = search }))

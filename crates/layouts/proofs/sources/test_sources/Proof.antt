@@ -1,5 +1,8 @@
 use Prim.Native.Nat.{_-_}
-use Rattle.layouts.proofs.sources.Passing.{Passing, passing}
+use native.Mathlib.Omega.{arith}
+use borrow.Author.Needs.{needs}
+use Rattle.headers.proofs.Headed.{has-entry}
+use Rattle.layouts.proofs.sources.Passing.{Passing, passing-none, passing-wrong, passing-more, passing-all}
 use Rattle.layouts.proofs.sources.test_sources.Statement.{statement}
 use Rattle.layouts.proofs.sources.test_sources.Tie as tie
 
@@ -15,17 +18,17 @@ test-sources-spec =
     (tie.spec
     Inv-loop
     μ-loop
-    (λ c κs. search passing)
-    (λ c κs. search passing)
-    (λ c κs. search passing)
-    (λ c κs. search passing)
-    (λ c. search passing)
-    (λ c κs. search passing)
-    (λ c. search passing)
-    (λ c κs. search passing)
-    (λ c κs. search passing)
-    (λ c. search passing)
-    (λ c. search passing)
-    (λ c. search passing)
-    (λ c κs. search passing)
-    (λ c. search passing))
+    (omega arith)
+    (omega arith)
+    (omega arith)
+    (λ c κs. search needs)
+    (λ c. search passing-none)
+    (λ c κs. search (needs, has-entry))
+    (λ c. search passing-wrong)
+    (λ c κs. search has-entry)
+    (λ c κs. search has-entry)
+    (omega arith)
+    (omega arith)
+    (λ c. search passing-more)
+    (omega arith)
+    (λ c. search passing-all))

@@ -1,5 +1,5 @@
 use native.Mathlib.Omega.{arith}
-use Rattle.layouts.proofs.sources.Entries.{entries}
+use Rattle.fields.proofs.Laws.{field-behind}
 use Rattle.layouts.proofs.sources.u8_in.Statement.{statement}
 use Rattle.layouts.proofs.sources.u8_in.Tie as tie
 
@@ -11,4 +11,4 @@ u8-in-spec =
     (omega arith)
     (omega arith)
     (omega arith)
-    (λ c. search entries))
+    (λ c. search field-behind))

@@ -1,4 +1,4 @@
-// The header of a register: test 2, field by field.
+// Document 01, "The register": its header, which test 2 asks field by field.
 ghost use mathlib.Core.Bool.{cond};
 ghost use mathlib.Core.Path.{_≡_};
 ghost use Prim.Native.Nat.{_≤_};
@@ -6,7 +6,7 @@ ghost use lib.ListN.{length, drop};
 ghost use Rattle.basis.specs.declared.Verdict.the-variants.{Refuses};
 ghost use Rattle.basis.specs.Answers.{firstRefusal};
 ghost use Rattle.meaning.specs.Register.{sourcesAt, headerTests};
-ghost use Rattle.layouts.specs.Layout.{Counted};
+ghost use Rattle.headers.specs.Header.{Counted};
 use basis::Verdict;
 
 // Where the sources begin, and the lengths of a source entry and of a line.

@@ -7,7 +7,7 @@ use Rattle.basis.specs.declared.Verdict.the-variants.{Passes}
 use Rattle.basis.specs.Answers.{firstRefusal}
 use Rattle.meaning.specs.Register.{sourceCount, headerTests}
 use Rattle.meaning.proofs.Registers.{right-header}
-use Rattle.layouts.specs.Layout.{Headed, HasEntry}
+use Rattle.headers.specs.Header.{Headed, HasEntry}
 
 -- a header that passes
 pub headed : (b : List ℕ) → firstRefusal (headerTests b) ≡ Passes → Headed b

@@ -3,7 +3,6 @@ use mathlib.Core.Bool.{Bool, true, false, cond, not, _||_}
 use mathlib.Core.List.{List, [], _∷_}
 use mathlib.Core.Path.{_≡_, refl, sym, _∙_}
 use Prim.Native.Nat.{ℕ}
-use borrow.Author.Needs.{needs}
 use lib.Dec.{eqb, ltb}
 use lib.ListN.{length, drop}
 use Rattle.basis.specs.declared.Verdict.{Verdict}
@@ -12,7 +11,7 @@ use Rattle.basis.specs.Bytes.{startsWith}
 use Rattle.basis.specs.Answers.{refuseIf, firstRefusal}
 use Rattle.fields.specs.Fields.{Field}
 use Rattle.meaning.specs.Register.{registerTag, registerLayout, isYear, mostSources, mostLines, mostNameBytes, sourcesAt, linesAt, namesAt, wholeLength, headerTests}
-use Rattle.layouts.specs.Layout.{Counted}
+use Rattle.headers.specs.Header.{Counted}
 
 -- the first of some tests refuses, or the later ones are heard
 pub heard : (wrong : Bool) (number place : ℕ) (later : List Verdict)
@@ -83,19 +82,3 @@ module _ {b : List ℕ} {n m t sources : ℕ} (k : Counted b n m t) (f : Field 4
       unfolding headerTests firstRefusal
       length-heard {whole} o z w =
           w ∙ rw (← f .is, e, ← g .is, ← h .is, ← o .is, ← k .sources .is, ← k .lines .is, ← k .names .is, r, z) (sym (heard (not (eqb whole (wholeLength n m t)) || not (eqb (length b) (wholeLength n m t))) 2 28 []))
-
-pub ruleset hearing = (
-  needs,
-  tag-refused,
-  layout-refused,
-  year-refused,
-  counts-heard,
-  sources-refused,
-  lines-refused,
-  names-refused,
-  offsets-heard,
-  sources-at-refused,
-  lines-at-refused,
-  names-at-refused,
-  length-heard,
-)
