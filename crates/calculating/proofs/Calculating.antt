@@ -1,30 +1,24 @@
 -- Calculation as its tests in order: what each part of the code finds is what the call answers. Assumes nothing.
 use mathlib.Core.Bool.{false}
-use mathlib.Core.List.{List, [], _∷_, map}
-use mathlib.Core.Path.{_≡_, sym, ap, _∙_}
+use mathlib.Core.List.{List, [], _∷_}
+use mathlib.Core.Path.{_≡_, sym, _∙_}
 use Prim.Native.Nat.{ℕ, _*_, _≤_, _<_}
 use native.Mathlib.Omega.{arith}
 use borrow.Author.Tests.{le-ltb}
 use lib.Dec.{ltb}
 use lib.ListN.{length, drop}
 use lib.Seq.{take-at}
-use Rattle.fields.specs.Fields.{Field}
 use Rattle.basis.specs.declared.Verdict.{Verdict}
 use Rattle.basis.specs.declared.Verdict.the-variants.{Passes, Refuses}
-use Rattle.basis.specs.Bytes.{Written}
-use Rattle.basis.specs.Lists.{Each}
 use Rattle.basis.specs.Answers.{firstRefusal, Gives}
 use Rattle.basis.proofs.Answers.{passed-then, refused-then, each-passes}
-use Rattle.basis.proofs.Lists.{sortedBy-each}
 use Rattle.meaning.specs.Masses.{equivalent, limit}
-use Rattle.meaning.specs.Register.{Source, yearOf, sourceCount, mostSources, sourcesAt, sourceAt, sourcesOf, registerTests}
-use Rattle.meaning.specs.Report.{entryOf, inOrder, figureCount, reportLength}
-use Rattle.meaning.specs.Calls.{lineTest, massTest, entriesFor, calculationTests, calculatedReport, calculated}
-use Rattle.meaning.proofs.Calls.{refused-gives, short-gives, made-gives}
-use Rattle.meaning.proofs.Laws.{one-entry-each}
-use Rattle.meaning.proofs.Lengths.{Massed, source-massed, length-report}
+use Rattle.meaning.specs.Register.{sourceCount, mostSources, sourcesAt, sourceAt, sourcesOf, registerTests}
+use Rattle.meaning.specs.Report.{entryOf, figureCount}
+use Rattle.meaning.specs.Calls.{lineTest, massTest, calculationTests, calculatedReport, calculated}
+use Rattle.meaning.proofs.Calls.{refused-gives}
 use Rattle.meaning.proofs.Registers.{right-register}
-use Rattle.meaning.proofs.Sources.{length-sources, kept-within}
+use Rattle.meaning.proofs.Sources.{kept-within}
 use Rattle.registers.specs.Keys.{sortedKeys, keysFor, Tested}
 use Rattle.registers.proofs.Passed.{length-sortedKeys}
 use Rattle.registers.proofs.Tested.{passed-headed, keys-left}
@@ -70,41 +64,9 @@ each-kept {b} j e i l =
     let m = each-passes (lineTest (sourcesOf b) ∷ massTest (sourcesOf b) ∷ []) (sym (j .verdict) ∙ e) .1 .0 in
     kept-within (sourceAt b i) (none-faulty b m i l)
 
--- the report of all sources is as long as their count says
-each-massed : (ss : List Source) → Each Massed (map entryOf ss)
-each-massed [] = tt
-each-massed (s ∷ ss) = (source-massed s, each-massed ss)
-
-length-calculated : (b : List ℕ) → length (calculatedReport b) ≡ reportLength (sourceCount b)
-unfolding entriesFor inOrder
-length-calculated b =
-    let ss = sourcesOf b in
-    length-report (yearOf b) (entriesFor ss) (sortedBy-each (λ e. e .number) Massed (map entryOf ss) (each-massed ss))
-    ∙ ap reportLength (one-entry-each ss .1 ∙ length-sources b)
-
 -- what is written where all tests pass
 pub all-passed : {b kept : List ℕ} {v : Verdict} → Passed b → Judged b v kept → v ≡ Passes → firstRefusal (calculationTests b) ≡ Passes
 all-passed {b} h j e = passed-then (registerTests b) (lineTest (sourcesOf b) ∷ massTest (sourcesOf b) ∷ []) (h .tests) ∙ sym (j .verdict) ∙ e
 
 pub ready : {b keys kept₀ kept : List ℕ} {v : Verdict} → Keyed b keys kept₀ → length kept ≡ length kept₀ → Judged b v kept → v ≡ Passes → Ready b keys kept
 ready h n j e = record { passes = h .passed .tests; order = h .order; long = omega (arith, h .room); stored = j .stored e; kept = each-kept j e }
-
--- its count of sources can be read
-pub ready-long : {b keys kept : List ℕ} → Ready b keys kept → sourcesAt ≤ length b
-ready-long {b} r = right-register b (r .passes) .long
-
--- and it tells the length of the report, by which the call answers
-module _ (b : List ℕ) (p : firstRefusal (calculationTests b) ≡ Passes) {n needed : ℕ} (f : Field 2 b 8 n) (e : needed ≡ reportLength n) where
-  needed-is : length (calculatedReport b) ≡ needed
-  needed-is = rw (e, f .is) (length-calculated b)
-
-  pub issued-short : {report : List ℕ} → length report < needed → Gives (calculated b report) (record { number = 8; place = needed; length = 0 }) report
-  unfolding calculated
-  issued-short {report} l = rw (← needed-is) (short-gives (calculationTests b) (calculatedReport b) report p (rw needed-is l))
-
-  pub issued-room : {m : ℕ} → needed ≤ m → reportLength (sourceCount b) ≤ m
-  issued-room l = rw (← f .is, ← e) l
-
-  pub issued-made : {report left : List ℕ} → Written report 0 (calculatedReport b) left → Gives (calculated b report) (record { number = 0; place = 0; length = needed }) left
-  unfolding calculated
-  issued-made {report} w = rw (← needed-is) (made-gives (calculationTests b) (calculatedReport b) report p w)

@@ -2,43 +2,21 @@
 ghost use mathlib.Core.Path.{_≡_};
 ghost use Prim.Native.Nat.{_*_, _≤_};
 ghost use lib.ListN.{length};
-ghost use Rattle.basis.specs.declared.Verdict.the-variants.{Passes};
-ghost use Rattle.basis.specs.Answers.{firstRefusal, Gives};
+ghost use Rattle.basis.specs.Answers.{Gives};
 ghost use Rattle.meaning.specs.Register.{mostSources};
 ghost use Rattle.meaning.specs.Report.{figureCount};
-ghost use Rattle.meaning.specs.Calls.{calculationTests, calculated};
+ghost use Rattle.meaning.specs.Calls.{calculated};
 ghost use Rattle.registers.specs.Keys.{keysFor};
-ghost use Rattle.issuing.specs.Ready.{Ready};
 ghost use Rattle.calculating.specs.Keyed.{Keyed};
 use basis::Answer;
 use basis::Verdict;
+use issuing::issue;
 use judging::judge_sources;
 
 // Rooms for one source, for so few and for so many, each eight times the one before: so none clears more than eight times what it wants.
 const FEW: usize = 8;
 
 const SOME: usize = 64;
-
-// What is left of a calculation whose tests have passed: the room, and the report.
-fn issue(register: &[u8], keys: &[u64], kept: &[u64], report: &mut [u8]) -> Answer
-    requires { ⌜ Ready (now register) (now keys) (now kept) × (firstRefusal (calculationTests (now register)) ≡ Passes) ⌝ }
-    ensures { λ r. ⌜ Gives (calculated (now (register .entry)) (now (report .entry))) r (now (report .exit)) ⌝ }
-{
-    let needed = reports::length_of(fields::u16_at(register, 8)) as usize;
-    if report.len() < needed {
-        return Answer {
-            number: 8,
-            place: needed as u64,
-            length: 0,
-        };
-    }
-    issuing::write_report(register, keys, kept, report);
-    Answer {
-        number: 0,
-        place: 0,
-        length: needed as u64,
-    }
-}
 
 // "5 over all lines, then 6 and 7 source by source in table order, then 8"
 fn judge(register: &[u8], keys: &[u64], kept: &mut [u64], report: &mut [u8]) -> Answer

@@ -21,7 +21,7 @@ use Rattle.meaning.specs.Report.{reportLength, reportYear, entryCount, entriesO
 use Rattle.meaning.specs.Calls.{formTest, sharedAt, sharedTest, combinationTests, bothEntries, combinedReport, combined}
 use Rattle.meaning.proofs.Calls.{refused-gives, short-gives, made-gives}
 use Rattle.meaning.proofs.Lengths.{length-report}
-use Rattle.reports.specs.Stated.{Readable}
+use Rattle.figures.specs.Stated.{Readable}
 use Rattle.reports.proofs.Judged.{readable}
 use Rattle.merging.specs.Entries.{sharedNumber, Combinable}
 use Rattle.merging.proofs.Shared.{positive-numbers}

@@ -3,17 +3,17 @@ ghost use mathlib.Core.Path.{_≡_};
 ghost use Rattle.basis.specs.declared.Verdict.the-variants.{Passes};
 ghost use Rattle.basis.specs.Answers.{firstRefusal, Gives};
 ghost use Rattle.meaning.specs.Calls.{combinationTests, combined};
-ghost use Rattle.reports.specs.Stated.{Readable};
+ghost use Rattle.figures.specs.Stated.{Readable};
 ghost use Rattle.merging.specs.Entries.{Combinable};
 ghost use Rattle.combining.specs.Tests.{formTests, entryTests};
 use basis::Answer;
 use basis::Verdict;
+use figures::ENTRIES_AT;
+use figures::ENTRY_LENGTH;
 use merging::entry_count;
 use merging::put_both;
 use merging::shared_number;
 use merging::year_of;
-use reports::ENTRIES_AT;
-use reports::ENTRY_LENGTH;
 
 // As many entries as a report may have.
 const MOST: usize = 512;

@@ -1,3 +1,4 @@
 pub mod Keyed
 pub mod Summing
 pub mod Issuing
+pub mod Issued

@@ -1,17 +1,21 @@
-// Document 01, "The report": the report of a register whose sources have been judged.
+// Document 01, "The report": the report of a register whose tests 1 to 7 have passed, or 8 where it has no room.
 ghost use mathlib.Core.List.{map};
 ghost use mathlib.Core.Path.{_≡_};
 ghost use Prim.Native.Nat.{_+_, _≤_, _<_};
 ghost use lib.ListN.{length, getD};
+ghost use Rattle.basis.specs.declared.Verdict.the-variants.{Passes};
+ghost use Rattle.basis.specs.Answers.{firstRefusal, Gives};
 ghost use Rattle.basis.specs.Bytes.{Written};
 ghost use Rattle.basis.specs.Lists.{joined};
 ghost use Rattle.meaning.specs.Register.{sourceCount, sourcesOf};
 ghost use Rattle.meaning.specs.Report.{entriesAt, reportLength, entryBytes};
-ghost use Rattle.meaning.specs.Calls.{entriesFor, calculatedReport};
+ghost use Rattle.meaning.specs.Calls.{entriesFor, calculationTests, calculatedReport, calculated};
 ghost use Rattle.issuing.specs.Ready.{Ready, Summable, totalsOf, entryOfKey};
-use reports::ENTRIES_AT;
-use reports::ENTRY_LENGTH;
-use reports::FIGURES;
+use basis::Answer;
+use figures::ENTRIES_AT;
+use figures::ENTRY_LENGTH;
+use figures::FIGURES;
+use figures::length_of;
 
 // Where a register's sources begin, the length of a source entry, and the place of the method in it.
 const SOURCES: usize = 32;
@@ -82,7 +86,7 @@ fn put_sources(register: &[u8], keys: &[u64], figures: &[u64], report: &mut [u8]
 }
 
 // The report of a register whose sources have been judged: its header with the totals, and its entries, ascending by number.
-pub fn write_report(register: &[u8], keys: &[u64], figures: &[u64], report: &mut [u8])
+fn write_report(register: &[u8], keys: &[u64], figures: &[u64], report: &mut [u8])
     requires { ⌜ Ready (now register) (now keys) (now figures) × (reportLength (sourceCount (now register)) ≤ length (now report)) ⌝ }
     ensures { λ _. ⌜ Written (now (report .entry)) 0 (calculatedReport (now (register .entry))) (now (report .exit)) ⌝ }
 {
@@ -91,4 +95,25 @@ pub fn write_report(register: &[u8], keys: &[u64], figures: &[u64], report: &mut
     let totals = totals_of(figures, n as usize);
     stating::put_header(report, year, n, &totals);
     put_sources(register, keys, figures, report);
+}
+
+// What is left of a calculation whose tests have passed: the room, and the report.
+pub fn issue(register: &[u8], keys: &[u64], figures: &[u64], report: &mut [u8]) -> Answer
+    requires { ⌜ Ready (now register) (now keys) (now figures) × (firstRefusal (calculationTests (now register)) ≡ Passes) ⌝ }
+    ensures { λ r. ⌜ Gives (calculated (now (register .entry)) (now (report .entry))) r (now (report .exit)) ⌝ }
+{
+    let needed = length_of(fields::u16_at(register, 8)) as usize;
+    if report.len() < needed {
+        return Answer {
+            number: 8,
+            place: needed as u64,
+            length: 0,
+        };
+    }
+    write_report(register, keys, figures, report);
+    Answer {
+        number: 0,
+        place: 0,
+        length: needed as u64,
+    }
 }

@@ -18,9 +18,9 @@ use Rattle.meaning.specs.Calls.{bothEntries}
 use Rattle.meaning.proofs.Lengths.{Massed, length-entry, length-header}
 use Rattle.meaning.proofs.Reports.{Formed, formed, length-masses, length-totals, total-is, totals-by, total-read, totals-read}
 use Rattle.fields.specs.Fields.{Field}
-use Rattle.reports.specs.Figures.{figureAt, figuresAt, addedAt, Addable}
-use Rattle.reports.specs.Stated.{Readable}
-use Rattle.reports.proofs.Entries.{figure-small}
+use Rattle.figures.specs.Figures.{figureAt, figuresAt, addedAt, Addable}
+use Rattle.figures.specs.Stated.{Readable}
+use Rattle.figures.proofs.Entries.{figure-small}
 use Rattle.stating.specs.Parts.{statedHeader}
 use Rattle.stating.proofs.Writing.{header-stated}
 use Rattle.merging.specs.Entries.{entriesFrom, rows, entryNumber}

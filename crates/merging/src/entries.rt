@@ -2,10 +2,10 @@
 ghost use mathlib.Core.Path.{_≡_};
 ghost use Prim.Native.Nat.{_<_};
 ghost use Rattle.meaning.specs.Report.{reportYear, entryCount};
-ghost use Rattle.reports.specs.Stated.{Readable};
+ghost use Rattle.figures.specs.Stated.{Readable};
 ghost use Rattle.merging.specs.Entries.{entryNumber};
-use reports::ENTRIES_AT;
-use reports::ENTRY_LENGTH;
+use figures::ENTRIES_AT;
+use figures::ENTRY_LENGTH;
 
 // Where a report's header states its totals.
 pub const TOTALS_AT: usize = 24;

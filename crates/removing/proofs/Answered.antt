@@ -13,7 +13,7 @@ use Rattle.meaning.specs.Report.{reportLength, reportBytes, reportYear, entryCo
 use Rattle.meaning.specs.Calls.{removalTests, removedReport, removed}
 use Rattle.meaning.proofs.Calls.{refused-gives, short-gives, made-gives}
 use Rattle.meaning.proofs.Lengths.{length-report}
-use Rattle.reports.specs.Stated.{Readable}
+use Rattle.figures.specs.Stated.{Readable}
 use Rattle.removing.specs.Others.{numberedAt, otherEntries}
 use Rattle.removing.proofs.Removed.{absent, present, without-is, length-others, others-massed}
 

@@ -9,9 +9,9 @@ use Rattle.basis.specs.Lists.{sum, countUp, joined}
 use Rattle.basis.proofs.Lists.{sum-both}
 use Rattle.meaning.specs.Report.{Entry, figureCount, figure, totals, entriesAt, entryLength, entryBytes, entryCount, entriesOf}
 use Rattle.meaning.proofs.Reports.{formed, totals-by}
-use Rattle.reports.specs.Figures.{figureAt, figuresAt}
-use Rattle.reports.specs.Stated.{Readable}
-use Rattle.reports.proofs.Entries.{figure-stands}
+use Rattle.figures.specs.Figures.{figureAt, figuresAt}
+use Rattle.figures.specs.Stated.{Readable}
+use Rattle.figures.proofs.Entries.{figure-stands}
 use Rattle.merging.specs.Entries.{entriesFrom, rows}
 use Rattle.merging.proofs.Rows.{entry, from-more, from-all, length-stated, stated-is}
 use Rattle.removing.specs.Others.{otherEntries, takenAt, Takeable}

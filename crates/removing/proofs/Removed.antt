@@ -22,8 +22,8 @@ use Rattle.meaning.specs.Report.{totals, entriesAt, entryLength, reportHeader, 
 use Rattle.meaning.specs.Calls.{numbered}
 use Rattle.meaning.proofs.Reports.{formed}
 use Rattle.fields.specs.Fields.{Field}
-use Rattle.reports.specs.Figures.{figureAt}
-use Rattle.reports.specs.Stated.{Readable}
+use Rattle.figures.specs.Figures.{figureAt}
+use Rattle.figures.specs.Stated.{Readable}
 use Rattle.stating.specs.Parts.{statedHeader}
 use Rattle.basis.proofs.Filling.{Filled, filled-none, filled-now, filled-more, filled-all}
 use Rattle.stating.proofs.Writing.{entry-stands}

@@ -6,7 +6,7 @@ use lib.Dec.{eqb}
 use lib.ListN.{length, getD}
 use Rattle.basis.specs.Lists.{countUp}
 use Rattle.meaning.specs.Report.{Entry, entryCount}
-use Rattle.reports.specs.Figures.{figureAt}
+use Rattle.figures.specs.Figures.{figureAt}
 use Rattle.merging.specs.Entries.{entriesFrom, entryNumber}
 
 -- entry i has a number

@@ -3,13 +3,13 @@ mod removal;
 
 ghost use Rattle.basis.specs.Answers.{Gives};
 ghost use Rattle.meaning.specs.Calls.{removed};
-ghost use Rattle.reports.specs.Stated.{Readable};
+ghost use Rattle.figures.specs.Stated.{Readable};
 use basis::Answer;
+use figures::ENTRIES_AT;
+use figures::ENTRY_LENGTH;
 use merging::entry_count;
 use removal::index_of;
 use removal::put_others;
-use reports::ENTRIES_AT;
-use reports::ENTRY_LENGTH;
 
 // "13, 8", then the report. The one lent is well-formed.
 fn remove_entry(report: &[u8], number: u32, result: &mut [u8]) -> Answer

@@ -6,16 +6,16 @@ ghost use Rattle.basis.specs.Bytes.{Written};
 ghost use Rattle.basis.specs.First.{first};
 ghost use Rattle.meaning.specs.Report.{reportHeader, reportBytes, reportYear, reportLength, entriesAt, entryLength, entryCount};
 ghost use Rattle.meaning.specs.Report.{totals as Report·totals};
-ghost use Rattle.reports.specs.Stated.{Readable};
+ghost use Rattle.figures.specs.Stated.{Readable};
 ghost use Rattle.merging.specs.Entries.{entriesFrom, rows};
 ghost use Rattle.removing.specs.Others.{numberedAt, otherEntries, takenAt, Takeable};
+use figures::ENTRIES_AT;
+use figures::ENTRY_LENGTH;
+use figures::FIGURES;
 use merging::TOTALS_AT;
 use merging::entry_count;
 use merging::entry_number;
 use merging::year_of;
-use reports::ENTRIES_AT;
-use reports::ENTRY_LENGTH;
-use reports::FIGURES;
 
 // The index of the entry that has a number, or the count where none has. Numbers ascend, so it is sought by halves: entries before low have
 // smaller numbers, and those from high on have none that is smaller.
@@ -83,7 +83,7 @@ fn other_totals(report: &[u8], i: usize) -> [u64; FIGURES]
     ensures { λ r. ⌜ r ≡ Report·totals (otherEntries (now (report .entry)) i) ⌝ }
 {
     let mut totals = [0u64; FIGURES];
-    reports::read_figures(report, TOTALS_AT, &mut totals);
+    figures::read_figures(report, TOTALS_AT, &mut totals);
     take_figures(report, ENTRIES_AT + ENTRY_LENGTH * i + 8, &mut totals);
     totals
 }

@@ -14,7 +14,8 @@ use Rattle.meaning.specs.Report.{figureCount, reportTag, entriesAt, reportLengt
 use Rattle.meaning.specs.Calls.{checked}
 use Rattle.meaning.proofs.Reports.{headed, formed}
 use Rattle.fields.specs.Fields.{Field}
-use Rattle.reports.specs.Stated.{Readable, frontRight}
+use Rattle.figures.specs.Stated.{Readable}
+use Rattle.reports.specs.Fronts.{frontRight}
 
 module _ (b : List ℕ) where
   pub front-judged : {n whole layout year : ℕ} {tagged : Bool} → (entriesAt ≤ length b) × (n ≡ entryCount b) × (whole ≡ reportLength n) → tagged ≡ startsWith reportTag b

@@ -1,4 +1,2 @@
-pub mod Filling
-pub mod Entries
 pub mod Pass
 pub mod Judged

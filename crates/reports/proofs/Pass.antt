@@ -16,8 +16,8 @@ use Rattle.meaning.specs.Register.{mostSources}
 use Rattle.meaning.specs.Report.{Entry, figureCount, totals, entriesAt, entryLength, reportLength, entryCount, entryAt, entryIn, entriesOf, numberBefore, wrongEntry, wrongTotal}
 use Rattle.meaning.proofs.Reports.{RightEntry, right-entry, length-totals, total-is, totals-by, total-more}
 use Rattle.fields.specs.Fields.{Field}
-use Rattle.reports.specs.Figures.{figureAt, addedAt, Addable}
-use Rattle.reports.proofs.Entries.{figure-stands, figure-small}
+use Rattle.figures.specs.Figures.{figureAt, addedAt, Addable}
+use Rattle.figures.proofs.Entries.{figure-stands, figure-small}
 
 -- no index below i has the test, and the later ones decide
 pub record Searched (test : ℕ → Bool) (n i : ℕ) : Type 0 where

@@ -17,7 +17,7 @@ use Rattle.meaning.specs.Masses.{gasCount}
 use Rattle.meaning.specs.Report.{Entry, figures, figureCount, totals, reportTag, reportLayout, entriesAt, entryLength, reportLength, reportHeader, entryBytes, entryCount, entryAt, entryIn}
 use Rattle.meaning.proofs.Reports.{formed, length-figures, entry-again, length-totals}
 use Rattle.fields.proofs.Laws.{Writing, writing-none, writing-then, writing-all}
-use Rattle.reports.specs.Stated.{Readable}
+use Rattle.figures.specs.Stated.{Readable}
 use Rattle.stating.specs.Parts.{figureBytes, statedEntry, statedFront, statedHeader}
 
 same-bytes : {xs ys us zs : List ℕ} {at : ℕ} → ys ≡ us → Written xs at ys zs → Written xs at us zs

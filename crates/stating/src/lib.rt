@@ -6,11 +6,11 @@ ghost use lib.ListN.{length};
 ghost use Rattle.basis.specs.Bytes.{Written, packed};
 ghost use Rattle.meaning.specs.Register.{mostSources};
 ghost use Rattle.meaning.specs.Report.{figureCount, reportTag, reportLayout, entriesAt, entryLength, reportLength, entryBytes, entryCount, entryAt, entryIn};
-ghost use Rattle.reports.specs.Stated.{Readable};
+ghost use Rattle.figures.specs.Stated.{Readable};
 ghost use Rattle.stating.specs.Parts.{figureBytes, statedEntry, statedFront, statedHeader};
-use reports::ENTRIES_AT;
-use reports::ENTRY_LENGTH;
-use reports::length_of;
+use figures::ENTRIES_AT;
+use figures::ENTRY_LENGTH;
+use figures::length_of;
 
 // Figures over what stands from a place on, eight bytes each.
 pub fn put_figures(buf: &mut [u8], at: usize, figures: &[u64])

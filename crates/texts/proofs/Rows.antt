@@ -17,9 +17,9 @@ use Rattle.meaning.specs.Report.{Entry, figureCount, entriesAt, entryLength, en
 use Rattle.meaning.specs.Text.{decimal, textLine}
 use Rattle.meaning.proofs.Reports.{formed, count-is, figures-read, totals-read}
 use Rattle.fields.specs.Fields.{Field}
-use Rattle.reports.specs.Figures.{figureAt, figuresAt}
-use Rattle.reports.specs.Stated.{Readable}
-use Rattle.reports.proofs.Entries.{figures-drop}
+use Rattle.figures.specs.Figures.{figureAt, figuresAt}
+use Rattle.figures.specs.Stated.{Readable}
+use Rattle.figures.proofs.Entries.{figures-drop}
 use Rattle.digits.specs.Digits.{Counted}
 use Rattle.texts.specs.Rows.{Measured, headNumbers, entryNumbers}
 use Rattle.digits.proofs.Counts.{count-one}

@@ -21,8 +21,8 @@ use Rattle.meaning.specs.Calls.{formTest, text}
 use Rattle.meaning.proofs.Calls.{refused-gives, short-gives, made-gives}
 use Rattle.meaning.proofs.Reports.{formed, count-is, length-masses, length-figures, length-totals}
 use Rattle.fields.specs.Fields.{Field}
-use Rattle.reports.specs.Figures.{figuresAt}
-use Rattle.reports.specs.Stated.{Readable}
+use Rattle.figures.specs.Figures.{figuresAt}
+use Rattle.figures.specs.Stated.{Readable}
 use Rattle.digits.specs.Digits.{field, pair, Ends, Put, Placed}
 use Rattle.digits.proofs.Counts.{some-digit, decimal-many}
 use Rattle.digits.proofs.Digits.{put-none, put-before}

@@ -8,16 +8,16 @@ ghost use Rattle.meaning.specs.Text.{textLine};
 ghost use Rattle.meaning.specs.Report.{figureCount, entryCount, entryAt, entryIn};
 ghost use Rattle.meaning.specs.Calls.{text as Calls·text};
 ghost use Rattle.digits.specs.Digits.{Ends, Put};
-ghost use Rattle.reports.specs.Figures.{figuresAt};
-ghost use Rattle.reports.specs.Stated.{Readable};
+ghost use Rattle.figures.specs.Figures.{figuresAt};
+ghost use Rattle.figures.specs.Stated.{Readable};
 ghost use Rattle.texts.specs.Rows.{Measured, headNumbers, entryNumbers, frontFields, entryLine, entryLines, textOf};
 use basis::Answer;
 use digits::digit_count;
 use digits::put_field_at;
 use digits::put_pair;
-use reports::ENTRIES_AT;
-use reports::ENTRY_LENGTH;
-use reports::FIGURES;
+use figures::ENTRIES_AT;
+use figures::ENTRY_LENGTH;
+use figures::FIGURES;
 
 // Room for the text of any report: none has more than 38,994 bytes (`longest` in `demands`).
 pub const TEXT_ROOM: usize = 40960;

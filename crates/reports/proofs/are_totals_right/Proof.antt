@@ -1,6 +1,6 @@
 use Prim.Native.Nat.{_-_}
 use Rattle.meaning.specs.Report.{figureCount}
-use Rattle.reports.proofs.Pass.{Compared, comparing}
+use Rattle.reports.proofs.Pass.{Compared, compared-none, comparing}
 use Rattle.reports.proofs.are_totals_right.Statement.{statement}
 use Rattle.reports.proofs.are_totals_right.Tie as tie
 
@@ -16,7 +16,7 @@ are-totals-right-spec =
     (tie.spec
     Inv-loop
     μ-loop
-    (λ c. search comparing)
+    (λ c. search compared-none)
     (λ c. search comparing)
     (λ c. search comparing)
     (λ c κs. search comparing)

@@ -1,8 +1,8 @@
 use Prim.Native.Nat.{_-_}
 use lib.ListN.{length}
-use Rattle.reports.proofs.Filling.{Reading, reading}
-use Rattle.reports.proofs.read_figures.Statement.{statement}
-use Rattle.reports.proofs.read_figures.Tie as tie
+use Rattle.figures.proofs.Filling.{Reading, reading}
+use Rattle.figures.proofs.read_figures.Statement.{statement}
+use Rattle.figures.proofs.read_figures.Tie as tie
 
 abbrev Inv-loop : tie.InvT-loop
 Inv-loop s at to₀ k₀ to k = Reading s at to₀ to k

@@ -1,8 +1,8 @@
 use Prim.Native.Nat.{_-_}
 use lib.ListN.{length}
-use Rattle.reports.proofs.Filling.{Adding, adding}
-use Rattle.reports.proofs.add_figures.Statement.{statement}
-use Rattle.reports.proofs.add_figures.Tie as tie
+use Rattle.figures.proofs.Filling.{Adding, adding}
+use Rattle.figures.proofs.add_figures.Statement.{statement}
+use Rattle.figures.proofs.add_figures.Tie as tie
 
 abbrev Inv-loop : tie.InvT-loop
 Inv-loop s at sums₀ k₀ sums k = Adding s at sums₀ sums k

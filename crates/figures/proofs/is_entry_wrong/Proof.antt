@@ -1,7 +1,7 @@
 use borrow.Author.Needs.{needs}
-use Rattle.reports.proofs.Entries.{front-wrong, front-right}
-use Rattle.reports.proofs.is_entry_wrong.Statement.{statement}
-use Rattle.reports.proofs.is_entry_wrong.Tie as tie
+use Rattle.figures.proofs.Entries.{front-wrong, front-right}
+use Rattle.figures.proofs.is_entry_wrong.Statement.{statement}
+use Rattle.figures.proofs.is_entry_wrong.Tie as tie
 
 pub is-entry-wrong-spec : {M : Type 1} → statement M
 is-entry-wrong-spec =

@@ -1,7 +1,7 @@
 use borrow.Author.Needs.{needs}
-use Rattle.reports.proofs.Entries.{wrong-above, wrong-stated}
-use Rattle.reports.proofs.is_equivalent_wrong.Statement.{statement}
-use Rattle.reports.proofs.is_equivalent_wrong.Tie as tie
+use Rattle.figures.proofs.Entries.{wrong-above, wrong-stated}
+use Rattle.figures.proofs.is_equivalent_wrong.Statement.{statement}
+use Rattle.figures.proofs.is_equivalent_wrong.Tie as tie
 
 pub is-equivalent-wrong-spec : {M : Type 1} → statement M
 is-equivalent-wrong-spec =

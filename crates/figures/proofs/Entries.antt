@@ -23,8 +23,8 @@ use Rattle.exact.specs.declared.Weighed.{Weighed}
 use Rattle.exact.specs.declared.Weighed.the-variants.{Within, Above}
 use Rattle.exact.specs.Equivalents.{withinLimit}
 use Rattle.exact.proofs.Equivalents.{within-exactly, above-exactly}
-use Rattle.reports.specs.Figures.{figureAt, figuresAt}
-use Rattle.reports.specs.Stated.{wrongEquivalent}
+use Rattle.figures.specs.Figures.{figureAt, figuresAt}
+use Rattle.figures.specs.Stated.{wrongEquivalent}
 
 -- figures behind a place are those of what stands from there on
 pub figures-drop : (count : ℕ) (b : List ℕ) (at p : ℕ) → figuresAt count b (at + p) ≡ figuresAt count (drop at b) p

@@ -1,8 +1,8 @@
 use native.Mathlib.Omega.{arith}
 use borrow.Author.Needs.{needs}
-use Rattle.calculating.proofs.Calculating.{ready-long, issued-short, issued-room, issued-made}
-use Rattle.calculating.proofs.issue.Statement.{statement}
-use Rattle.calculating.proofs.issue.Tie as tie
+use Rattle.issuing.proofs.Issued.{ready-long, issued-short, issued-room, issued-made}
+use Rattle.issuing.proofs.issue.Statement.{statement}
+use Rattle.issuing.proofs.issue.Tie as tie
 
 pub issue-spec : {M : Type 1} → statement M
 issue-spec =

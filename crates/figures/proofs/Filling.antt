@@ -9,7 +9,7 @@ use borrow.Author.Needs.{needs}
 use lib.ListN.{length, getD, set}
 use Rattle.fields.specs.Fields.{Field}
 use Rattle.basis.proofs.Filling.{Filled, filled-none, filled-now, filled-more, filled-all}
-use Rattle.reports.specs.Figures.{figureAt, figuresAt, addedAt, Addable}
+use Rattle.figures.specs.Figures.{figureAt, figuresAt, addedAt, Addable}
 
 -- k figures are read
 pub record Reading (bs : List ℕ) (at : ℕ) (to₀ to : List ℕ) (k : ℕ) : Type 0 where

@@ -1,7 +1,7 @@
 use borrow.Author.Needs.{needs}
-use Rattle.reports.proofs.Entries.{masses-read}
-use Rattle.reports.proofs.masses_at.Statement.{statement}
-use Rattle.reports.proofs.masses_at.Tie as tie
+use Rattle.figures.proofs.Entries.{masses-read}
+use Rattle.figures.proofs.masses_at.Statement.{statement}
+use Rattle.figures.proofs.masses_at.Tie as tie
 
 pub masses-at-spec : {M : Type 1} → statement M
 masses-at-spec =
