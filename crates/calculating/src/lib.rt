@@ -1,5 +1,4 @@
 // Document 01: calculation, from the bytes of a register to those of its report.
-ghost use mathlib.Core.Path.{_≡_};
 ghost use Prim.Native.Nat.{_*_, _≤_};
 ghost use lib.ListN.{length};
 ghost use Rattle.basis.specs.Answers.{Gives};
