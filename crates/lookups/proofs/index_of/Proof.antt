@@ -1,8 +1,8 @@
 use Prim.Native.Nat.{_-_}
 use native.Mathlib.Omega.{arith}
-use Rattle.names.proofs.Names.{Finding, find-none, find-hit, find-more, find-all}
-use Rattle.names.proofs.index_of.Statement.{statement}
-use Rattle.names.proofs.index_of.Tie as tie
+use Rattle.lookups.proofs.Looking.{Finding, find-none, find-hit, find-more, find-all}
+use Rattle.lookups.proofs.index_of.Statement.{statement}
+use Rattle.lookups.proofs.index_of.Tie as tie
 
 abbrev Inv-loop : tie.InvT-loop
 Inv-loop register number n i₀ i = Finding register number n i

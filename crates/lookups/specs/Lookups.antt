@@ -4,7 +4,7 @@ use mathlib.Core.List.{List}
 use mathlib.Core.Path.{_≡_}
 use Prim.Native.Nat.{ℕ}
 use Rattle.meaning.specs.Calls.{accepted, holds, found}
-use Rattle.names.specs.declared.Sought.{Sought}
+use Rattle.lookups.specs.declared.Sought.{Sought}
 
 pub record Seeks (b : List ℕ) (number : ℕ) (s : Sought) : Type 0 where
   pub taken : s .accepted ≡ accepted b

@@ -1,6 +1,6 @@
-use Rattle.names.proofs.Names.{accepted-headed, accepted-entry, accepted-counts, sought-held, sought-absent}
-use Rattle.names.proofs.look_in.Statement.{statement}
-use Rattle.names.proofs.look_in.Tie as tie
+use Rattle.lookups.proofs.Looking.{accepted-headed, accepted-entry, accepted-counts, sought-held, sought-absent}
+use Rattle.lookups.proofs.look_in.Statement.{statement}
+use Rattle.lookups.proofs.look_in.Tie as tie
 
 pub look-in-spec : {M : Type 1} → statement M
 look-in-spec =

@@ -1,7 +1,7 @@
 use native.Mathlib.Omega.{arith}
-use Rattle.names.proofs.Names.{name-there}
-use Rattle.names.proofs.name_at.Statement.{statement}
-use Rattle.names.proofs.name_at.Tie as tie
+use Rattle.lookups.proofs.Looking.{name-there}
+use Rattle.lookups.proofs.name_at.Statement.{statement}
+use Rattle.lookups.proofs.name_at.Tie as tie
 
 pub name-at-spec : {M : Type 1} → statement M
 name-at-spec =

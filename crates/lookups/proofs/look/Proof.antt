@@ -1,6 +1,6 @@
-use Rattle.names.proofs.Names.{accepted-by, sought-refused}
-use Rattle.names.proofs.look.Statement.{statement}
-use Rattle.names.proofs.look.Tie as tie
+use Rattle.lookups.proofs.Looking.{accepted-by, sought-refused}
+use Rattle.lookups.proofs.look.Statement.{statement}
+use Rattle.lookups.proofs.look.Tie as tie
 
 pub look-spec : {M : Type 1} → statement M
 look-spec =
