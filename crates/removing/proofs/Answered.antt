@@ -3,7 +3,6 @@ use mathlib.Core.Bool.{Bool, false}
 use mathlib.Core.List.{List}
 use mathlib.Core.Path.{_≡_, ap, _∙_}
 use Prim.Native.Nat.{ℕ, _-_, _≤_, _<_}
-use borrow.Author.Needs.{needs}
 use lib.ListN.{length}
 use Rattle.basis.specs.declared.Verdict.the-variants.{Passes}
 use Rattle.basis.specs.Answers.{firstRefusal, Gives}
@@ -14,8 +13,9 @@ use Rattle.meaning.specs.Calls.{removalTests, removedReport, removed}
 use Rattle.meaning.proofs.Calls.{refused-gives, short-gives, made-gives}
 use Rattle.meaning.proofs.Lengths.{length-report}
 use Rattle.figures.specs.Stated.{Readable}
-use Rattle.removing.specs.Others.{numberedAt, otherEntries}
-use Rattle.removing.proofs.Removed.{absent, present, without-is, length-others, others-massed}
+use Rattle.omitting.specs.Others.{numberedAt, otherEntries}
+use Rattle.omitting.proofs.Omitted.{length-others}
+use Rattle.removing.proofs.Removed.{others-massed, absent, present, without-is}
 
 module _ (b : List ℕ) (x : ℕ) (buffer : List ℕ) where
   pub removal-malformed : {f : Bool} → f ≡ wellFormed b → f ≡ false → Gives (removed b x buffer) (record { number = 9; place = 1; length = 0 }) buffer
@@ -49,5 +49,3 @@ module _ (b : List ℕ) (x : ℕ) (buffer : List ℕ) where
           → Gives (removed b x buffer) (record { number = 0; place = 0; length = reportLength (n - 1) }) left
       unfolding removed
       removal-made w = rw (← length-removed) (made-gives (removalTests b x) (removedReport b x) buffer tests-pass (rw report-is w))
-
-pub ruleset removing = (needs, removal-short)

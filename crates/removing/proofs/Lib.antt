@@ -1,4 +1,3 @@
 pub mod Between
-pub mod Parted
 pub mod Removed
 pub mod Answered

@@ -1,6 +1,4 @@
 // Removal of an entry from a report: it tests its input, and writes only where every test has passed.
-mod removal;
-
 ghost use Rattle.basis.specs.Answers.{Gives};
 ghost use Rattle.meaning.specs.Calls.{removed};
 ghost use Rattle.figures.specs.Stated.{Readable};
@@ -8,8 +6,8 @@ use basis::Answer;
 use figures::ENTRIES_AT;
 use figures::ENTRY_LENGTH;
 use merging::entry_count;
-use removal::index_of;
-use removal::put_others;
+use omitting::index_of;
+use omitting::put_others;
 
 // "13, 8", then the report. The one lent is well-formed.
 fn remove_entry(report: &[u8], number: u32, result: &mut [u8]) -> Answer

@@ -1,4 +1,5 @@
-use Rattle.removing.proofs.Answered.{removal-absent, removal-made, removing}
+use borrow.Author.Needs.{needs}
+use Rattle.removing.proofs.Answered.{removal-absent, removal-short, removal-made}
 use Rattle.removing.proofs.remove_entry.Statement.{statement}
 use Rattle.removing.proofs.remove_entry.Tie as tie
 
@@ -6,13 +7,13 @@ pub remove-entry-spec : {M : Type 1} → statement M
 remove-entry-spec =
     tie.close
     (tie.spec
-    (λ c κs. search removing)
-    (λ c κs. search removing)
+    (λ c κs. search needs)
+    (λ c κs. search needs)
     (λ c. search removal-absent)
-    (λ c. search removing)
-    (λ c. search removing)
-    (λ c. search removing)
-    (λ c. search removing)
-    (λ c κs. search removing)
-    (λ c. search removing)
+    (λ c. search needs)
+    (λ c. search needs)
+    (λ c. search needs)
+    (λ c. search removal-short)
+    (λ c κs. search needs)
+    (λ c. search needs)
     (λ c. search removal-made))

@@ -1,7 +1,7 @@
 use borrow.Author.Needs.{needs}
-use Rattle.removing.proofs.Removed.{other-header}
-use Rattle.removing.proofs.removal.put_other_header.Statement.{statement}
-use Rattle.removing.proofs.removal.put_other_header.Tie as tie
+use Rattle.omitting.proofs.Omitted.{other-header}
+use Rattle.omitting.proofs.put_other_header.Statement.{statement}
+use Rattle.omitting.proofs.put_other_header.Tie as tie
 
 pub put-other-header-spec : {M : Type 1} → statement M
 put-other-header-spec =

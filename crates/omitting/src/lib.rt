@@ -8,7 +8,7 @@ ghost use Rattle.meaning.specs.Report.{reportHeader, reportBytes, reportYear, r
 ghost use Rattle.meaning.specs.Report.{totals as Report·totals};
 ghost use Rattle.figures.specs.Stated.{Readable};
 ghost use Rattle.merging.specs.Entries.{entriesFrom, rows};
-ghost use Rattle.removing.specs.Others.{numberedAt, otherEntries, takenAt, Takeable};
+ghost use Rattle.omitting.specs.Others.{numberedAt, otherEntries, takenAt, Takeable};
 use figures::ENTRIES_AT;
 use figures::ENTRY_LENGTH;
 use figures::FIGURES;

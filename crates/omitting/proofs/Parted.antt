@@ -14,7 +14,7 @@ use Rattle.figures.specs.Stated.{Readable}
 use Rattle.figures.proofs.Entries.{figure-stands}
 use Rattle.merging.specs.Entries.{entriesFrom, rows}
 use Rattle.merging.proofs.Rows.{entry, from-more, from-all, length-stated, stated-is}
-use Rattle.removing.specs.Others.{otherEntries, takenAt, Takeable}
+use Rattle.omitting.specs.Others.{otherEntries, takenAt, Takeable}
 
 module _ (b : List ℕ) where
   from-split : (i j k : ℕ) → entriesFrom b i (j + k) ≡ entriesFrom b i j ++ entriesFrom b (i + j) k

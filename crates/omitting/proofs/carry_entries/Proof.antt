@@ -2,9 +2,9 @@ use denote.Ref.{now}
 use native.Mathlib.Omega.{arith}
 use borrow.Author.Needs.{needs}
 use Rattle.basis.specs.Bytes.{Bytes}
-use Rattle.removing.proofs.Removed.{entries-carried}
-use Rattle.removing.proofs.removal.carry_entries.Statement.{statement}
-use Rattle.removing.proofs.removal.carry_entries.Tie as tie
+use Rattle.omitting.proofs.Omitted.{entries-carried}
+use Rattle.omitting.proofs.carry_entries.Statement.{statement}
+use Rattle.omitting.proofs.carry_entries.Tie as tie
 
 pub carry-entries-spec : {M : Type 1} → statement M
 carry-entries-spec =
@@ -22,4 +22,4 @@ carry-entries-spec =
     (λ c.
     let known = c .before .before .before .before .before .before in
     let bytes : Bytes (now (known .before .args .from)) = λ k. omega (arith, known .shared-slice-known .given k) in
-    search (needs, entries-carried)))
+    search entries-carried))

@@ -1,7 +1,7 @@
 use borrow.Author.Needs.{needs}
 use Rattle.merging.proofs.Rows.{report-written}
-use Rattle.removing.proofs.removal.put_others.Statement.{statement}
-use Rattle.removing.proofs.removal.put_others.Tie as tie
+use Rattle.omitting.proofs.put_others.Statement.{statement}
+use Rattle.omitting.proofs.put_others.Tie as tie
 
 pub put-others-spec : {M : Type 1} → statement M
 put-others-spec =

@@ -1,7 +1,7 @@
 use borrow.Author.Needs.{needs}
-use Rattle.removing.proofs.Removed.{others-written}
-use Rattle.removing.proofs.removal.put_other_entries.Statement.{statement}
-use Rattle.removing.proofs.removal.put_other_entries.Tie as tie
+use Rattle.omitting.proofs.Omitted.{others-written}
+use Rattle.omitting.proofs.put_other_entries.Statement.{statement}
+use Rattle.omitting.proofs.put_other_entries.Tie as tie
 
 pub put-other-entries-spec : {M : Type 1} → statement M
 put-other-entries-spec =

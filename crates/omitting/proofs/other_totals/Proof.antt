@@ -1,7 +1,7 @@
 use borrow.Author.Needs.{needs}
-use Rattle.removing.proofs.Parted.{others-held, others-taken}
-use Rattle.removing.proofs.removal.other_totals.Statement.{statement}
-use Rattle.removing.proofs.removal.other_totals.Tie as tie
+use Rattle.omitting.proofs.Parted.{others-held, others-taken}
+use Rattle.omitting.proofs.other_totals.Statement.{statement}
+use Rattle.omitting.proofs.other_totals.Tie as tie
 
 pub other-totals-spec : {M : Type 1} → statement M
 other-totals-spec =
