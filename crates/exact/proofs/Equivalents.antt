@@ -7,7 +7,6 @@ use Prim.Native.Nat.{ℕ, _+_, _*_, _≤_, _<_}
 use native.Mathlib.Nat.{le-trans, mul-le-mul-left, mul-le-mul-right}
 use native.Mathlib.Numerals.{add-one}
 use native.Mathlib.Omega.{arith}
-use borrow.Author.Needs.{needs}
 use borrow.Author.Tests.{leb-true, leb-false, le-leb, lt-leb}
 use lib.Dec.{leb}
 use lib.ListN.{length, getD, drop}
@@ -112,5 +111,3 @@ weighing-above {ms} l h m = sym (above-limit ms (omega (arith, weighing-all l h)
 
 pub weighing-within : {ms : List ℕ} {sum gas : ℕ} → Weighing ms sum gas → gasCount ≤ gas → sum ≤ limit → Within sum ≡ withinLimit ms
 weighing-within {ms} l h m = ap Within (weighing-all l h) ∙ sym (within-limit ms (omega (arith, weighing-all l h)))
-
-pub ruleset weighing = (needs, weighing-first, weighing-fits, weighing-sum-fits, weighing-next, weighing-none, weighing-above, weighing-within)

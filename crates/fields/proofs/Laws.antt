@@ -106,8 +106,6 @@ pub put-all : {bs₀ : List ℕ} {at k v : ℕ} {bs : List ℕ} {i w : ℕ} → 
 unfolding bytesOf
 put-all {k = k} {i = i} p h = let z : k - i ≡ 0 = omega arith in writing-all (rw z at (p .left))
 
-pub ruleset putting = (needs, put-none, put-more, put-all)
-
 -- i of the bytes ys are copied
 pub record Copied (bs₀ : List ℕ) (at : ℕ) (ys bs : List ℕ) (i : ℕ) : Type 0 where
   pub low : i ≤ length ys

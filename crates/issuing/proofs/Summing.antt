@@ -92,8 +92,6 @@ module _ {figures to₀ to : List ℕ} {i k : ℕ} (r : Adding figures i to₀ t
       filled-all (r .filled) (omega (arith, size))
       ∙ ap (λ (m : ℕ). map (total figures (i + 1)) (countUp 0 m)) (ap length (r .before) ∙ length-totalsOf figures i)
 
-pub ruleset adding = (needs, adding-none, adding-there, adding-fits, adding-more, adding-all)
-
 -- the totals of i sources
 pub record Totalled (figures : List ℕ) (n : ℕ) (to : List ℕ) (i : ℕ) : Type 0 where
   pub low : i ≤ n

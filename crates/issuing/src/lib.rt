@@ -16,16 +16,12 @@ use figures::ENTRIES_AT;
 use figures::ENTRY_LENGTH;
 use figures::FIGURES;
 use figures::length_of;
+use headers::MOST;
+use headers::SOURCE;
+use headers::SOURCES;
 
-// Where a register's sources begin, the length of a source entry, and the place of the method in it.
-const SOURCES: usize = 32;
-
-const SOURCE: usize = 16;
-
+// The place of the method in a source's entry.
 const METHOD: usize = 4;
-
-// As many sources as a register may have: a key is a source's number times this, and its index.
-const MOST: u64 = 512;
 
 // The figures of source i added to the totals of those before it.
 fn add_source(totals: &mut [u64], figures: &[u64], i: usize)
@@ -53,7 +49,8 @@ fn totals_of(figures: &[u64], n: usize) -> [u64; FIGURES]
     totals
 }
 
-// Entry k of the report: that of the source whose key stands at k. Its figures stand where the table has the source.
+// Entry k of the report: that of the source whose key stands at k. A key is a source's number times MOST, and its index; its figures stand where the
+// table has the source.
 fn put_source(register: &[u8], keys: &[u64], k: usize, figures: &[u64], report: &mut [u8])
     requires { ⌜ Ready (now register) (now keys) (now figures) × (k < sourceCount (now register)) × (reportLength (k + 1) ≤ length (now report)) ⌝ }
     ensures { λ _. ⌜ Written (now (report .entry)) (reportLength k) (entryBytes (entryOfKey (now (register .entry)) (getD (now (keys .entry)) k 0))) (now (report .exit)) ⌝ }

@@ -10,7 +10,7 @@ use meaning::Line;
 use meaning::RawLine;
 
 // The whole of a share, in ten-thousandths.
-const WHOLE: u64 = 10000;
+pub const WHOLE: u64 = 10000;
 
 // The carbonates' factors by code, and the acids' by parameter. No carbonate has code 0 and no plant parameter 0.
 const CARBONATES: [u64; 5] = [0, 440, 522, 477, 380];

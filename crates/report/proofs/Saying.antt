@@ -36,7 +36,7 @@ module _ (register : List ℕ) {a : Answer} {left : List ℕ} (g : Gives (calcul
     pub output-refused : (a .number ≡ 0 → ⊥) → Fronted room (refusedLine (a .number) (a .place)) zs n → Fronted room (output register room) zs n
     output-refused f w = rw (output-is room ∙ said-refused a (textOutput (take (a .length) left) room) f) w
 
-pub ruleset saying = (needs, report-within, report-part, output-made, output-refused)
+pub ruleset saying = (needs, report-within, report-part)
 
 -- what the program says goes by the first 45,089 bytes alone
 pub output-same : (xs ys : List ℕ) → 45089 ≤ length xs → (room : List ℕ) → output (xs ++ ys) room ≡ output xs room

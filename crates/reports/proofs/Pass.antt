@@ -64,7 +64,7 @@ module _ {b : List ℕ} {k : ℕ} (c : Compared b k) where
   pub compared-all : figureCount ≤ k → true ≡ not (any (wrongTotal b) (countUp 0 figureCount))
   compared-all l = rw (searched-all (c .searched) l)
 
-pub ruleset comparing = (needs, compared-none, compared-more, compared-not, compared-all)
+pub ruleset comparing = (needs, compared-more, compared-not, compared-all)
 
 -- the entries before i
 unfoldable pub entriesTo : List ℕ → ℕ → List Entry

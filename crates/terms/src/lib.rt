@@ -7,6 +7,7 @@ ghost use Rattle.meaning.specs.Masses.{gasCount, carbonDioxide, co2OfCarbon, mo
 ghost use Rattle.methods.specs.Ranges.{KindFits, carbonFactor};
 ghost use Rattle.terms.specs.Terms.{Weighs, contributed};
 use meaning::Kind;
+use methods::WHOLE;
 
 // A kind as one product: a line of quantity q adds q * content * factor to the sum of its gas, or takes it from there.
 pub struct Term {
@@ -15,9 +16,6 @@ pub struct Term {
     pub content: u64,
     pub factor: u64,
 }
-
-// The whole of a share, in ten-thousandths.
-const WHOLE: u64 = 10000;
 
 // Tonnes of CO2 that a thousand tonnes of carbon make.
 const CO2_OF_CARBON: u64 = 3664;

@@ -57,9 +57,6 @@ module _ {b : List ℕ} {at total k : ℕ} (m : Measuring b at total k) where
   figures = figuresAt figureCount b at
 
   module _ {figure digits : ℕ} (l : k < figureCount) (f : Field 8 b (at + 8 * k) figure) (c : Counted figure digits) where
-    pub measuring-fits : Fits w64 (total + (digits + 1))
-    measuring-fits = record { fits = omega (arith, m .small, c .few) }
-
     pub measuring-more : Measuring b at (total + (digits + 1)) (k + 1)
     unfolding spans
     measuring-more =
@@ -74,8 +71,6 @@ module _ {b : List ℕ} {at total k : ℕ} (m : Measuring b at total k) where
       let n = length-figures b at in
       let z : spans (drop k figures) ≡ 0 = ap spans (drop-of-length-le figures {i = k} (omega (arith, n))) in
       record { is = rw (length-line figures (omega (arith, n))) (omega (arith, m .rest)); small = omega (arith, n, m .small, m .low) }
-
-pub ruleset measuring = (needs, measuring-none, measuring-fits, measuring-more, measuring-all)
 
 -- two numbers before the figures
 row-measured : {fs : List ℕ} {rest a b first second : ℕ} → length fs ≡ figureCount → Measured fs rest → Counted a first → Counted b second

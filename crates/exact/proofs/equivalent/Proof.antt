@@ -1,7 +1,7 @@
 use Prim.Native.Nat.{_-_}
 use borrow.Author.Needs.{needs}
 use Rattle.meaning.specs.Masses.{gasCount}
-use Rattle.exact.proofs.Equivalents.{Weighing, weighing}
+use Rattle.exact.proofs.Equivalents.{Weighing, weighing-first, weighing-none, weighing-fits, weighing-sum-fits, weighing-next, weighing-above, weighing-within}
 use Rattle.exact.proofs.equivalent.Statement.{statement}
 use Rattle.exact.proofs.equivalent.Tie as tie
 
@@ -14,8 +14,8 @@ abbrev μ-loop : tie.MeasureT-loop
 pub equivalent-spec : {M : Type 1} → statement M
 equivalent-spec =
     tie.close
-    (tie.spec Inv-loop μ-loop (λ c. search weighing)
+    (tie.spec Inv-loop μ-loop (λ c. search weighing-first)
     (search needs) (search needs) (search needs)
-    (λ c. search weighing) (λ c. search weighing) (λ c. search weighing)
+    (λ c. search weighing-none) (λ c. search weighing-fits) (λ c. search weighing-sum-fits)
     (search needs) (search needs)
-    (λ c. search weighing) (λ c. search weighing) (λ c. search weighing))
+    (λ c. search weighing-next) (λ c. search weighing-above) (λ c. search weighing-within))

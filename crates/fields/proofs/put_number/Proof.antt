@@ -1,5 +1,6 @@
 use Prim.Native.Nat.{_-_}
-use Rattle.fields.proofs.Laws.{Put, putting}
+use borrow.Author.Needs.{needs}
+use Rattle.fields.proofs.Laws.{Put, put-none, put-more, put-all}
 use Rattle.fields.proofs.put_number.Statement.{statement}
 use Rattle.fields.proofs.put_number.Tie as tie
 
@@ -15,12 +16,12 @@ put-number-spec =
     (tie.spec
     Inv-loop
     μ-loop
-    (λ c. search putting)
-    (λ c. search putting)
-    (λ c. search putting)
-    (λ c. search putting)
-    (λ c. search putting)
-    (λ c. search putting)
-    (λ c. search putting)
-    (λ c. search putting)
-    (λ c. search putting))
+    (λ c. search put-none)
+    (λ c. search needs)
+    (λ c. search needs)
+    (λ c. search needs)
+    (λ c. search needs)
+    (λ c. search needs)
+    (λ c. search put-more)
+    (λ c. search needs)
+    (λ c. search put-all))

@@ -1,6 +1,7 @@
 use Prim.Native.Nat.{_-_}
+use borrow.Author.Needs.{needs}
 use Rattle.meaning.specs.Report.{figureCount}
-use Rattle.issuing.proofs.Summing.{Adding, adding}
+use Rattle.issuing.proofs.Summing.{Adding, adding-none, adding-fits, adding-more, adding-all, adding-there}
 use Rattle.issuing.proofs.add_source.Statement.{statement}
 use Rattle.issuing.proofs.add_source.Tie as tie
 
@@ -16,17 +17,17 @@ add-source-spec =
     (tie.spec
     Inv-loop
     μ-loop
-    (λ c. search adding)
-    (λ c. search adding)
-    (λ c. search adding)
-    (λ c. search adding)
-    (λ c. search adding)
-    (λ c. search adding)
-    (λ c. search adding)
-    (λ c. search adding)
-    (λ c. search adding)
-    (λ c. search adding)
-    (λ c. search adding)
-    (λ c. search adding)
-    (λ c. search adding)
-    (λ c. search adding))
+    (λ c. search adding-none)
+    (λ c. search needs)
+    (λ c. search needs)
+    (λ c. search needs)
+    (λ c. search needs)
+    (λ c. search needs)
+    (λ c. search (needs, adding-there))
+    (λ c. search adding-fits)
+    (λ c. search (needs, adding-there))
+    (λ c. search needs)
+    (λ c. search needs)
+    (λ c. search adding-more)
+    (λ c. search needs)
+    (λ c. search adding-all))

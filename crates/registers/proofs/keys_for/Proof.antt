@@ -1,5 +1,5 @@
 use native.Mathlib.Omega.{arith}
-use Rattle.registers.proofs.Tested.{testing}
+use Rattle.registers.proofs.Tested.{for-short, for-many, for-few}
 use Rattle.registers.proofs.keys_for.Statement.{statement}
 use Rattle.registers.proofs.keys_for.Tie as tie
 
@@ -7,7 +7,7 @@ pub keys-for-spec : {M : Type 1} → statement M
 keys-for-spec =
     tie.close
     (tie.spec
-    (λ c. search testing)
+    (λ c. (search for-short, omega arith))
     (omega arith)
-    (λ c. search testing)
-    (λ c. search testing))
+    (λ c. (search for-many, omega arith))
+    (λ c. (search for-few, omega arith)))

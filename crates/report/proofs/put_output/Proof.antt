@@ -1,5 +1,5 @@
 use borrow.Author.Needs.{needs}
-use Rattle.report.proofs.Saying.{saying}
+use Rattle.report.proofs.Saying.{output-made, output-refused, saying}
 use Rattle.report.proofs.put_output.Statement.{statement}
 use Rattle.report.proofs.put_output.Tie as tie
 
@@ -13,7 +13,7 @@ put-output-spec =
     (λ c. search saying)
     (search needs)
     (search needs)
-    (λ c. search saying)
+    (λ c. search output-made)
     (search needs)
     (search needs)
-    (λ c. search saying))
+    (λ c. search output-refused))

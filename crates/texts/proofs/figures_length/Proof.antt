@@ -1,6 +1,7 @@
 use Prim.Native.Nat.{_-_}
+use borrow.Author.Needs.{needs}
 use Rattle.meaning.specs.Report.{figureCount}
-use Rattle.texts.proofs.Rows.{Measuring, measuring}
+use Rattle.texts.proofs.Rows.{Measuring, measuring-none, measuring-more, measuring-all}
 use Rattle.texts.proofs.figures_length.Statement.{statement}
 use Rattle.texts.proofs.figures_length.Tie as tie
 
@@ -16,14 +17,14 @@ figures-length-spec =
     (tie.spec
     Inv-loop
     μ-loop
-    (λ c. search measuring)  -- loop-holds
-    (λ c. search measuring)  -- mul-u64-at
-    (λ c. search measuring)  -- add-u64-at
-    (λ c κs. search measuring)  -- u64-at-requires
-    (λ c κs. search measuring)  -- digit-count-requires
-    (λ c. search measuring)  -- add-total
-    (λ c. search measuring)  -- add-total-2
-    (λ c. search measuring)  -- add-k
-    (λ c. search measuring)  -- loop-less
-    (λ c. search measuring)  -- loop-again
-    (λ c. search measuring))  -- returns
+    (λ c. search measuring-none)  -- loop-holds
+    (λ c. search needs)  -- mul-u64-at
+    (λ c. search needs)  -- add-u64-at
+    (λ c κs. search needs)  -- u64-at-requires
+    (λ c κs. search needs)  -- digit-count-requires
+    (λ c. search needs)  -- add-total
+    (λ c. search needs)  -- add-total-2
+    (λ c. search needs)  -- add-k
+    (λ c. search needs)  -- loop-less
+    (λ c. search measuring-more)  -- loop-again
+    (λ c. search measuring-all))  -- returns
