@@ -134,16 +134,17 @@ module _ (one other buffer : List ℕ) where
   unfolding combined
   combination-refused e f = refused-gives (combinationTests one other) (combinedReport one other) buffer (sym e ∙ f)
 
-  module _ (h : Combinable one other × (firstRefusal (combinationTests one other) ≡ Passes)) {n m : ℕ} (e : n ≡ entryCount one) (f : m ≡ entryCount other) where
-    length-combined : length (combinedReport one other) ≡ reportLength (n + m)
-    length-combined = length-report (reportYear one) (bothEntries one other) (massed-both one other) ∙ rw (e, f) (ap reportLength (length-both one other))
+  module _ (h : Combinable one other × (firstRefusal (combinationTests one other) ≡ Passes)) {n m needed : ℕ}
+      (e : n ≡ entryCount one) (f : m ≡ entryCount other) (g : needed ≡ reportLength (n + m)) where
+    length-combined : length (combinedReport one other) ≡ needed
+    length-combined = length-report (reportYear one) (bothEntries one other) (massed-both one other) ∙ rw (g, e, f) (ap reportLength (length-both one other))
 
-    pub combination-short : length buffer < reportLength (n + m) → Gives (combined one other buffer) (record { number = 8; place = reportLength (n + m); length = 0 }) buffer
+    pub combination-short : length buffer < needed → Gives (combined one other buffer) (record { number = 8; place = needed; length = 0 }) buffer
     unfolding combined
     combination-short l = rw (← length-combined) (short-gives (combinationTests one other) (combinedReport one other) buffer (h .1) (rw length-combined l))
 
     pub combination-made : {left : List ℕ} → Written buffer 0 (combinedReport one other) left
-        → Gives (combined one other buffer) (record { number = 0; place = 0; length = reportLength (n + m) }) left
+        → Gives (combined one other buffer) (record { number = 0; place = 0; length = needed }) left
     unfolding combined
     combination-made w = rw (← length-combined) (made-gives (combinationTests one other) (combinedReport one other) buffer (h .1) w)
 

@@ -8,8 +8,7 @@ ghost use Rattle.merging.specs.Entries.{Combinable};
 ghost use Rattle.combining.specs.Tests.{formTests, entryTests};
 use basis::Answer;
 use basis::Verdict;
-use figures::ENTRIES_AT;
-use figures::ENTRY_LENGTH;
+use figures::length_of;
 use merging::entry_count;
 use merging::put_both;
 use merging::shared_number;
@@ -83,11 +82,11 @@ fn combine_entries(first: &[u8], second: &[u8], report: &mut [u8]) -> Answer
     requires { ⌜ Combinable (now first) (now second) × (firstRefusal (combinationTests (now first) (now second)) ≡ Passes) ⌝ }
     ensures { λ r. ⌜ Gives (combined (now (first .entry)) (now (second .entry)) (now (report .entry))) r (now (report .exit)) ⌝ }
 {
-    let needed = ENTRIES_AT + ENTRY_LENGTH * (entry_count(first) + entry_count(second));
-    if report.len() < needed {
+    let needed = length_of((entry_count(first) + entry_count(second)) as u64);
+    if (report.len() as u64) < needed {
         return Answer {
             number: 8,
-            place: needed as u64,
+            place: needed,
             length: 0,
         };
     }
@@ -95,7 +94,7 @@ fn combine_entries(first: &[u8], second: &[u8], report: &mut [u8]) -> Answer
     Answer {
         number: 0,
         place: 0,
-        length: needed as u64,
+        length: needed,
     }
 }
 

@@ -21,6 +21,9 @@ const FIVES: u64 = 9765625;
 
 pub const GASES: usize = 3;
 
+// The figures of a source: a mass for each gas, and the equivalent.
+pub const FIGURES: usize = GASES + 1;
+
 // "CO2 + 25 CH4 + 298 N2O"
 const WARMING: [u64; GASES] = [1, 25, 298];
 

@@ -9,9 +9,6 @@ ghost use Rattle.figures.specs.Stated.{wrongEquivalent};
 use exact::GASES;
 use exact::Weighed;
 
-// The figures of an entry: a mass for each gas, and the equivalent.
-pub const FIGURES: usize = GASES + 1;
-
 pub const ENTRIES_AT: usize = 56;
 
 pub const ENTRY_LENGTH: usize = 40;

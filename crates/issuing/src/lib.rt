@@ -12,9 +12,9 @@ ghost use Rattle.meaning.specs.Report.{entriesAt, reportLength, entryBytes};
 ghost use Rattle.meaning.specs.Calls.{entriesFor, calculationTests, calculatedReport, calculated};
 ghost use Rattle.issuing.specs.Ready.{Ready, Summable, totalsOf, entryOfKey};
 use basis::Answer;
+use exact::FIGURES;
 use figures::ENTRIES_AT;
 use figures::ENTRY_LENGTH;
-use figures::FIGURES;
 use figures::length_of;
 use headers::MOST;
 use headers::SOURCE;
@@ -99,11 +99,11 @@ pub fn issue(register: &[u8], keys: &[u64], figures: &[u64], report: &mut [u8]) 
     requires { ⌜ Ready (now register) (now keys) (now figures) × (firstRefusal (calculationTests (now register)) ≡ Passes) ⌝ }
     ensures { λ r. ⌜ Gives (calculated (now (register .entry)) (now (report .entry))) r (now (report .exit)) ⌝ }
 {
-    let needed = length_of(fields::u16_at(register, 8)) as usize;
-    if report.len() < needed {
+    let needed = length_of(fields::u16_at(register, 8));
+    if (report.len() as u64) < needed {
         return Answer {
             number: 8,
-            place: needed as u64,
+            place: needed,
             length: 0,
         };
     }
@@ -111,6 +111,6 @@ pub fn issue(register: &[u8], keys: &[u64], figures: &[u64], report: &mut [u8]) 
     Answer {
         number: 0,
         place: 0,
-        length: needed as u64,
+        length: needed,
     }
 }

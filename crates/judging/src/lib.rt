@@ -7,9 +7,9 @@ ghost use Rattle.meaning.specs.Register.{sourceCount};
 ghost use Rattle.meaning.specs.Report.{figureCount};
 ghost use Rattle.judging.specs.Sources.{Passed, Begins, ComesAt, waited, Judged};
 use basis::Verdict;
+use exact::FIGURES;
 use headers::SOURCE;
 use headers::SOURCES;
-use masses::FIGURES;
 
 // A source of a register: whether its lines are good, the first that is not, and else what it comes to.
 struct Judgement {

@@ -7,6 +7,7 @@ ghost use Rattle.summing.specs.Sums.{Roomy};
 ghost use Rattle.summing.specs.Lines.{Lines};
 ghost use Rattle.masses.specs.Judged.{AllRoomy, gramsOf, WeighedBy, JudgedBy, Comes};
 use exact::Amount;
+use exact::FIGURES;
 use exact::GASES;
 use exact::Weighed;
 use summing::Sums;
@@ -23,9 +24,6 @@ pub struct Source {
     pub fault: u32,
     pub figures: [u64; FIGURES],
 }
-
-// The figures of an entry: a mass for each gas, and the equivalent.
-pub const FIGURES: usize = GASES + 1;
 
 // What each gas comes to, in whole grams.
 fn grams(amounts: [Amount; GASES]) -> [u64; GASES]

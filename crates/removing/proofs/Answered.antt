@@ -27,7 +27,7 @@ module _ (b : List ℕ) (x : ℕ) (buffer : List ℕ) where
     unfolding removed firstRefusal
     removal-absent l = refused-gives (removalTests b x) (removedReport b x) buffer (rw (r .right, absent b r x i f (rw e at l)))
 
-    module _ (l : i < n) where
+    module _ (l : i < n) {needed : ℕ} (g : needed ≡ reportLength (n - 1)) where
       stands-there : i < entryCount b
       stands-there = rw e at l
 
@@ -38,14 +38,14 @@ module _ (b : List ℕ) (x : ℕ) (buffer : List ℕ) where
       report-is : removedReport b x ≡ reportBytes (reportYear b) (otherEntries b i)
       report-is = ap (reportBytes (reportYear b)) (without-is b r x i f stands-there)
 
-      length-removed : length (removedReport b x) ≡ reportLength (n - 1)
-      length-removed = rw report-is (length-report (reportYear b) (otherEntries b i) (others-massed b i) ∙ rw e (ap reportLength (length-others b i stands-there)))
+      length-removed : length (removedReport b x) ≡ needed
+      length-removed = rw report-is (length-report (reportYear b) (otherEntries b i) (others-massed b i) ∙ rw (g, e) (ap reportLength (length-others b i stands-there)))
 
-      pub removal-short : length buffer < reportLength (n - 1) → Gives (removed b x buffer) (record { number = 8; place = reportLength (n - 1); length = 0 }) buffer
+      pub removal-short : length buffer < needed → Gives (removed b x buffer) (record { number = 8; place = needed; length = 0 }) buffer
       unfolding removed
       removal-short o = rw (← length-removed) (short-gives (removalTests b x) (removedReport b x) buffer tests-pass (rw length-removed o))
 
       pub removal-made : {left : List ℕ} → Written buffer 0 (reportBytes (reportYear b) (otherEntries b i)) left
-          → Gives (removed b x buffer) (record { number = 0; place = 0; length = reportLength (n - 1) }) left
+          → Gives (removed b x buffer) (record { number = 0; place = 0; length = needed }) left
       unfolding removed
       removal-made w = rw (← length-removed) (made-gives (removalTests b x) (removedReport b x) buffer tests-pass (rw report-is w))

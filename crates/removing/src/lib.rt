@@ -3,8 +3,7 @@ ghost use Rattle.basis.specs.Answers.{Gives};
 ghost use Rattle.meaning.specs.Calls.{removed};
 ghost use Rattle.figures.specs.Stated.{Readable};
 use basis::Answer;
-use figures::ENTRIES_AT;
-use figures::ENTRY_LENGTH;
+use figures::length_of;
 use merging::entry_count;
 use omitting::index_of;
 use omitting::put_others;
@@ -23,11 +22,11 @@ fn remove_entry(report: &[u8], number: u32, result: &mut [u8]) -> Answer
             length: 0,
         };
     }
-    let needed = ENTRIES_AT + ENTRY_LENGTH * (n - 1);
-    if result.len() < needed {
+    let needed = length_of((n - 1) as u64);
+    if (result.len() as u64) < needed {
         return Answer {
             number: 8,
-            place: needed as u64,
+            place: needed,
             length: 0,
         };
     }
@@ -35,7 +34,7 @@ fn remove_entry(report: &[u8], number: u32, result: &mut [u8]) -> Answer
     Answer {
         number: 0,
         place: 0,
-        length: needed as u64,
+        length: needed,
     }
 }
 

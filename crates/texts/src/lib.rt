@@ -15,9 +15,9 @@ use basis::Answer;
 use digits::digit_count;
 use digits::put_field_at;
 use digits::put_pair;
+use exact::FIGURES;
 use figures::ENTRIES_AT;
 use figures::ENTRY_LENGTH;
-use figures::FIGURES;
 
 // Room for the text of any report: none has more than 38,994 bytes (`longest` in `demands`).
 pub const TEXT_ROOM: usize = 40960;
