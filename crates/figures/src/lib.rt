@@ -1,4 +1,4 @@
-// An entry of a report: its figures read and added, and whether it breaks a rule.
+// An entry of a report: its figures read and added, and whether it breaks a rule; and the length of a report.
 ghost use mathlib.Core.Path.{_≡_};
 ghost use Prim.Native.Nat.{_+_, _*_, _≤_, _<_};
 ghost use lib.ListN.{length, drop};
