@@ -31,8 +31,8 @@ passes (Refuses number place) = false
 
 -- "Acceptance is 0, place 0 and the report's length"; "A refusal has length 0"
 abbrev pub answer : Verdict → ℕ → Answer
-answer Passes length = record { number = 0; place = 0; length = length }
-answer (Refuses number place) length = record { number = number; place = place; length = 0 }
+answer Passes size = record { number = 0; place = 0; length = size }
+answer (Refuses number place) size = record { number = number; place = place; length = 0 }
 
 -- a call's answer, and the bytes that it leaves in the buffer lent to it
 pub record Outcome : Type 0 where

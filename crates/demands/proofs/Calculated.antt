@@ -1,6 +1,6 @@
--- What calculation makes of sources that nothing refuses, and that it refuses exactly when the table says. Assumes nothing.
+-- What calculation makes of sources that nothing refuses, and that its tests decide the table's rows. Assumes nothing.
 use mathlib.Core.Bool.{Bool, true, false, _||_, _&&_, not}
-use mathlib.Core.List.{List, [], _∷_, _++_, map, append-assoc}
+use mathlib.Core.List.{List, [], _∷_, _++_, map}
 use mathlib.Core.Logic.{⊎-elim, _≢_}
 use mathlib.Core.Path.{_≡_, refl, sym, ap, _∙_}
 use Prim.Native.Nat.{ℕ, _+_, _*_, _^_, _≤_, _<_}
@@ -26,17 +26,16 @@ use Rattle.meaning.proofs.Laws.{one-entry-each}
 use Rattle.meaning.proofs.Lengths.{source-massed}
 use Rattle.meaning.proofs.Sources.{noSource, sourceNumber, length-sources, source-at, sound-parts, kept-within}
 use Rattle.demands.specs.Valid.{Entered, Distinct, entryNumber, Reportable}
-use Rattle.demands.specs.Demand1.{Answers}
 use Rattle.demands.specs.Table.{Among}
-use Rattle.demands.specs.Exactly.{at, Exactly}
-use Rattle.demands.specs.Refusals.{registerRows, calculationRows}
+use Rattle.demands.specs.Exactly.{at}
+use Rattle.demands.specs.Refusals.{registerRows, sourceRows, calculationRows}
 use Rattle.basis.proofs.Counting.{any-some, some-any, any-append, append-any}
 use Rattle.demands.proofs.Figures.{equivalent-is}
 use Rattle.demands.proofs.Order.{sorted-ascending}
 use Rattle.basis.proofs.Rows.{numberAt-fits, bytes-drop}
 use Rattle.demands.proofs.Among.{range-among}
 use Rattle.demands.proofs.Compared.{room-decides, enough-room}
-use Rattle.demands.proofs.Exactly.{decide-append, DecideAll, Numbered, exactly-written, zero-passes, answers}
+use Rattle.demands.proofs.Exactly.{decide-append, DecideAll, Numbered, zero-passes}
 use Rattle.demands.proofs.Reports.{length-report}
 use Rattle.demands.proofs.RegisterTests.{register-decides}
 use Rattle.demands.proofs.Registers.{Passed, passed, passing}
@@ -190,7 +189,7 @@ module _ (b : List ℕ) (h : Bytes b) where
   pub register-makes : Passed b → Each Calculable (sourcesOf b) → Reportable (yearOf b) (entriesFor (sourcesOf b))
   register-makes p c = sources-make (yearOf b) (sourcesOf b) (p .laid .year) (rw (length-sources b) (p .laid .sources)) c (p .once)
 
-  made-length : Passed b → Each Calculable (sourcesOf b) → length (reportBytes (yearOf b) (entriesFor (sourcesOf b))) ≡ reportLength (sourceCount b)
+  pub made-length : Passed b → Each Calculable (sourcesOf b) → length (reportBytes (yearOf b) (entriesFor (sourcesOf b))) ≡ reportLength (sourceCount b)
   made-length p c =
       length-report (yearOf b) (entriesFor (sourcesOf b)) (register-makes p c) ∙ ap reportLength (one-entry-each (sourcesOf b) .1 ∙ length-sources b)
 
@@ -198,25 +197,30 @@ module _ (b : List ℕ) (h : Bytes b) where
   source-good e i l =
       rw (source-at b i l) at (each-at (λ s. any isBad (decodedLines s) ≡ false) (sourcesOf b) noSource (lines-good (sourcesOf b) e) i (rw (length-sources b) l))
 
-  -- all its tests, that of the room last; and those that come behind the register's
+  -- all its tests, that of the room last
   abbrev pub allTests : List ℕ → List Verdict
   allTests report = calculationTests b ++ (roomTest (calculatedReport b) report ∷ [])
 
-  abbrev later : List ℕ → List Verdict
-  later report = lineTest (sourcesOf b) ∷ massTest (sourcesOf b) ∷ roomTest (calculatedReport b) report ∷ []
+  -- tests 1 to 7 that pass: the register passes 1 to 4, and nothing refuses its sources
+  pub sources-passed : firstRefusal (calculationTests b) ≡ Passes → Passed b × Each Calculable (sourcesOf b)
+  sources-passed e =
+      let r = passed-append (registerTests b) (lineTest (sourcesOf b) ∷ massTest (sourcesOf b) ∷ []) e in
+      let q = passed b (r .0) in
+      let t = each-passes (lineTest (sourcesOf b) ∷ massTest (sourcesOf b) ∷ []) (r .1) in
+      (q, calculable q (t .0) (t .1 .0))
 
-  parted : (report : List ℕ) → allTests report ≡ registerTests b ++ later report
-  parted report = append-assoc (registerTests b) (lineTest (sourcesOf b) ∷ massTest (sourcesOf b) ∷ []) (roomTest (calculatedReport b) report ∷ [])
+  pub sources-decide : DecideAll (calculationTests b) (sourceRows b)
+  sources-decide =
+      decide-append (registerTests b) (lineTest (sourcesOf b) ∷ massTest (sourcesOf b) ∷ []) (registerRows b) _ (register-decides b)
+      (λ p. (line-decides b (passed b p .laid), λ l. (mass-decides b (source-good l), λ m. tt)))
 
-  decides : (report : List ℕ) → DecideAll (allTests report) (calculationRows b (length report))
-  decides report =
-      rw (parted report)
-      (decide-append (registerTests b) (later report) (registerRows b) _ (register-decides b)
-      (λ p. let q = passed b p in
-      (line-decides b (q .laid), λ l. (mass-decides b (source-good l), λ m. (room-decides (calculatedReport b) report (reportLength (sourceCount b)) (made-length q (calculable q l m)), λ _. tt)))))
+  pub calculation-decides : (report : List ℕ) → DecideAll (allTests report) (calculationRows b (length report))
+  calculation-decides report =
+      decide-append (calculationTests b) (roomTest (calculatedReport b) report ∷ []) (sourceRows b) _ sources-decide
+      (λ e. let r = sources-passed e in (room-decides (calculatedReport b) report (reportLength (sourceCount b)) (made-length (r .0) (r .1)), λ _. tt))
 
-  numbers : (report : List ℕ) → Numbered calculationNumbers (calculationRows b (length report))
-  numbers report =
+  pub calculation-numbered : (report : List ℕ) → Numbered calculationNumbers (calculationRows b (length report))
+  calculation-numbered report =
       record {
         positive = omega arith;
         among =
@@ -231,41 +235,19 @@ module _ (b : List ℕ) (h : Bytes b) where
             & tt;
       }
 
-  -- tests that all pass: the register passes 1 to 4, and nothing refuses its sources
-  all-passed : (report : List ℕ) → firstRefusal (allTests report) ≡ Passes → Passed b × Each Calculable (sourcesOf b)
-  all-passed report e =
-      let f = parted report in
-      let r = passed-append (registerTests b) (later report) (rw f at e) in
-      let q = passed b (r .0) in
-      let t = each-passes (later report) (r .1) in
-      (q, calculable q (t .0) (t .1 .0))
-
-  pub calculation-exactly : (report : List ℕ) → Exactly (calculationRows b (length report)) (reportLength (sourceCount b)) (calculated b report .answer)
-  unfolding calculated
-  calculation-exactly report =
-      exactly-written (calculationTests b) calculationNumbers (calculationRows b (length report)) (calculatedReport b) report (reportLength (sourceCount b)) (decides report) (numbers report)
-      (λ e. let r = all-passed report e in made-length (r .0) (r .1))
-
-  pub calculation-answers : (report : List ℕ) → Answers calculationNumbers report (calculated b report)
-  unfolding calculated
-  calculation-answers report = answers (calculationTests b) calculationNumbers (calculationRows b (length report)) (calculatedReport b) report (decides report) (numbers report)
-
   pub accepted : (report : List ℕ) → calculated b report .answer .number ≡ 0 → Passed b × Each Calculable (sourcesOf b) × (firstRefusal (allTests report) ≡ Passes)
   unfolding calculated
   accepted report e =
-      let p = zero-passes (calculationTests b) calculationNumbers (calculationRows b (length report)) (calculatedReport b) report (decides report) (numbers report) e in
-      let r = all-passed report p in
+      let p = zero-passes (calculationTests b) calculationNumbers (calculationRows b (length report)) (calculatedReport b) report (calculation-decides report) (calculation-numbered report) e in
+      let r = sources-passed (passed-append (calculationTests b) (roomTest (calculatedReport b) report ∷ []) p .0) in
       (r .0, r .1, p)
 
   -- and the other way round, with room
   pub accepting : (report : List ℕ) → Passed b → Each Calculable (sourcesOf b) → reportLength (sourceCount b) ≤ length report → firstRefusal (allTests report) ≡ Passes
   accepting report p c o =
-      let f = parted report in
       let l = made-length p c in
-      rw f
-      (passed-then (registerTests b) (later report) (passing b p)
-      ∙ passes-each (later report)
-      (good-lines (sourcesOf b) (each-map (λ s h. h .good) (sourcesOf b) c)
-      & kept-sums (sourcesOf b) (each-map (λ s h. h .kept) (sourcesOf b) c)
-      & enough-room (calculatedReport b) report (omega arith)
-      & tt))
+      passed-then (calculationTests b) (roomTest (calculatedReport b) report ∷ [])
+      (passed-then (registerTests b) (lineTest (sourcesOf b) ∷ massTest (sourcesOf b) ∷ []) (passing b p)
+      ∙ passes-each (lineTest (sourcesOf b) ∷ massTest (sourcesOf b) ∷ [])
+      (good-lines (sourcesOf b) (each-map (λ s h. h .good) (sourcesOf b) c) & kept-sums (sourcesOf b) (each-map (λ s h. h .kept) (sourcesOf b) c) & tt))
+      ∙ passes-each (roomTest (calculatedReport b) report ∷ []) (enough-room (calculatedReport b) report (omega arith) & tt)

@@ -4,9 +4,10 @@ use mathlib.Core.List.{List, [], _∷_, _++_}
 use mathlib.Core.Logic.{inl, inr, ⊎-elim, _↔_, _≢_}
 use mathlib.Core.Path.{_≡_, refl, sym, ap, subst₂, _∙_}
 use Prim.Native.Nat.{ℕ, _<_}
+use native.Mathlib.Nat.{zero-add}
 use native.Mathlib.Omega.{arith}
 use lib.Dec.{ltb}
-use lib.ListN.{length}
+use lib.ListN.{length, drop}
 use borrow.Author.Tests.{ltb-false}
 use Rattle.basis.specs.Bytes.{splice}
 use Rattle.basis.specs.Lists.{Each}
@@ -22,6 +23,7 @@ use Rattle.meaning.specs.Calls.{roomTest, written}
 use Rattle.demands.specs.Demand1.{FromTable, Answers}
 use Rattle.demands.specs.Table.{Among}
 use Rattle.demands.specs.Exactly.{Row, Nowhere, at, atSmallest, FirstOf, Exactly}
+use Rattle.demands.specs.Calls.{Leaves, Writes}
 
 -- a test refuses exactly where its row does
 abbrev pub Decides : Verdict → Row → Type 0
@@ -98,7 +100,7 @@ first-among : (ns : List ℕ) (rows : List Row) → NumbersOf ns rows → (n p :
 first-among ns [] h n p r = absurd r
 first-among ns (row ∷ rows) h n p r = ⊎-elim (λ w. h .0 n p w) (λ w. first-among ns rows (h .1) n p (w .1)) r
 
-among-positive : (ns : List ℕ) → Each (λ m. 0 < m) ns → (n : ℕ) → Among ns n → n ≢ 0
+pub among-positive : (ns : List ℕ) → Each (λ m. 0 < m) ns → (n : ℕ) → Among ns n → n ≢ 0
 among-positive [] h n a e = a
 among-positive (m ∷ ms) h n (inl q) e = omega (arith, h .0)
 among-positive (m ∷ ms) h n (inr a) e = among-positive ms (h .1) n a e
@@ -108,39 +110,34 @@ pub record Numbered (ns : List ℕ) (rows : List Row) : Type 0 where
   pub positive : Each (λ m. 0 < m) ns
   pub among : NumbersOf ns rows
 
-first-number : (ns : List ℕ) (rows : List Row) → Numbered ns rows → (n p : ℕ) → FirstOf rows n p → n ≢ 0
+pub first-number : (ns : List ℕ) (rows : List Row) → Numbered ns rows → (n p : ℕ) → FirstOf rows n p → n ≢ 0
 first-number ns rows z n p r = among-positive ns (z .positive) n (first-among ns rows (z .among) n p r)
 
 refusal-path : {m q n p : ℕ} → Refuses m q ≡ Refuses n p → _≡_ {A = Answer} (record { number = m; place = q; length = 0 }) (record { number = n; place = p; length = 0 })
 refusal-path e i = record { number = sym (refuses-number e) i; place = sym (refuses-place e) i; length = 0 }
 
--- a call's answer is given exactly when its rows say; where it accepts, what it made has the length stated
-pub exactly : (v : Verdict) (ns : List ℕ) (rows : List Row) (made len : ℕ) → Decides v (FirstOf rows) → Numbered ns rows → (v ≡ Passes → made ≡ len)
-    → Exactly rows len (answer v made)
-exactly Passes ns rows made len d z m =
+-- a call's answer is given exactly when its rows say
+pub exactly : (v : Verdict) (ns : List ℕ) (rows : List Row) (made : ℕ) → Decides v (FirstOf rows) → Numbered ns rows → Exactly rows (answer v made)
+exactly Passes ns rows made d z =
     record {
       refused = λ n p h. (λ e. absurd (h (sym (ap (λ (a : Answer). a .number) e))), λ r. absurd (never (d n p .1 r)));
       accepted = (λ e n p r. never (d n p .1 r), λ h. refl);
-      answer = λ e i. record { number = 0; place = 0; length = m refl i };
     }
-exactly (Refuses m q) ns rows made len d z l =
+exactly (Refuses m q) ns rows made d z =
     let fires = d m q .0 refl in
     record {
       refused = λ n p h.
           (λ e. d n p .0 (refuses-both (sym (ap (λ (a : Answer). a .number) e)) (sym (ap (λ (a : Answer). a .place) e))), λ r. refusal-path (d n p .1 r));
       accepted = (λ e. absurd (first-number ns rows z m q fires e), λ h. absurd (h m q fires));
-      answer = λ e. absurd (first-number ns rows z m q fires e);
     }
 
 -- and so is that of a call that writes, by its tests and that of the room
-pub exactly-written : (tests : List Verdict) (ns : List ℕ) (rows : List Row) (made buffer : List ℕ) (len : ℕ) → DecideAll (tests ++ (roomTest made buffer ∷ [])) rows
-    → Numbered ns rows → (firstRefusal (tests ++ (roomTest made buffer ∷ [])) ≡ Passes → length made ≡ len)
-    → Exactly rows len (written tests made buffer .answer)
+pub exactly-written : (tests : List Verdict) (ns : List ℕ) (rows : List Row) (made buffer : List ℕ) → DecideAll (tests ++ (roomTest made buffer ∷ [])) rows
+    → Numbered ns rows → Exactly rows (written tests made buffer .answer)
 unfolding written
-exactly-written tests ns rows made buffer len d z m =
+exactly-written tests ns rows made buffer d z =
     let ts = tests ++ (roomTest made buffer ∷ []) in
-    rw (settled-answer (firstRefusal ts) made buffer)
-    (exactly (firstRefusal ts) ns rows (length made) len (first-decides ts rows d) z m)
+    rw (settled-answer (firstRefusal ts) made buffer) (exactly (firstRefusal ts) ns rows (length made) (first-decides ts rows d) z)
 
 -- an accepted call's tests all pass
 pub zero-passes : (tests : List Verdict) (ns : List ℕ) (rows : List Row) (made buffer : List ℕ) → DecideAll (tests ++ (roomTest made buffer ∷ [])) rows → Numbered ns rows
@@ -178,13 +175,24 @@ answers tests ns rows made buffer d z =
           sized = refl;
         }
 
--- what is left in the buffer of an accepted call, and the length that it answers
-pub left-written : (tests : List Verdict) (made buffer : List ℕ) → firstRefusal (tests ++ (roomTest made buffer ∷ [])) ≡ Passes
-    → written tests made buffer .left ≡ splice buffer 0 made
-unfolding written settled
-left-written tests made buffer e = ap (λ (v : Verdict). settled v made buffer .left) e
+-- what an accepted call leaves in its buffer
+leaves-written : (tests : List Verdict) (made buffer : List ℕ) {Made : List ℕ → Type 0} → firstRefusal (tests ++ (roomTest made buffer ∷ [])) ≡ Passes → Made made
+    → Leaves Made buffer (written tests made buffer)
+unfolding written settled splice
+leaves-written tests made buffer e m =
+    record {
+      bytes = made;
+      made = m;
+      answers = ap (λ (v : Verdict). settled v made buffer .answer .length) e;
+      left = ap (λ (v : Verdict). settled v made buffer .left) e ∙ ap (λ (n : ℕ). made ++ drop n buffer) (zero-add (length made));
+    }
 
-pub length-written : (tests : List Verdict) (made buffer : List ℕ) → firstRefusal (tests ++ (roomTest made buffer ∷ [])) ≡ Passes
-    → written tests made buffer .answer .length ≡ length made
-unfolding written settled
-length-written tests made buffer e = ap (λ (v : Verdict). settled v made buffer .answer .length) e
+-- a call that writes says and leaves what is asked, where its tests decide its rows and what it makes, once they pass, is what is asked for
+pub writes : (tests : List Verdict) (ns : List ℕ) (rows : List Row) (made buffer : List ℕ) {Made : List ℕ → Type 0} → DecideAll (tests ++ (roomTest made buffer ∷ [])) rows
+    → Numbered ns rows → (firstRefusal (tests ++ (roomTest made buffer ∷ [])) ≡ Passes → Made made) → Writes ns rows Made buffer (written tests made buffer)
+writes tests ns rows made buffer d z m =
+    record {
+      answers = answers tests ns rows made buffer d z;
+      exactly = exactly-written tests ns rows made buffer d z;
+      leaves = λ a. let e = zero-passes tests ns rows made buffer d z a in leaves-written tests made buffer e (m e);
+    }

@@ -1,3 +1,4 @@
+pub mod Words
 pub mod Among
 pub mod Readings
 pub mod Table
@@ -31,6 +32,8 @@ pub mod Texts
 pub mod Longest
 pub mod Masses
 pub mod Names
+pub mod Calls
+pub mod Fixed
 pub mod Algebra
 pub mod TooMany
 pub mod Shown

@@ -22,7 +22,8 @@ use Rattle.meaning.specs.Register.{sourceCount, sourceEntry, numberIn, nameLeng
 use Rattle.meaning.specs.Calls.{accepted, hasNumber, indexOf, holds, nameAt, found, inRegister, foundOfTwo}
 use Rattle.meaning.proofs.Sources.{noSource, sourceNumber, length-sources, source-at, sound-parts}
 use Rattle.demands.specs.Refusals.{registerRows}
-use Rattle.demands.specs.Demand2.{Refused, Numbered, Absent, IsName, partOf, Names}
+use Rattle.demands.specs.Demand2.{Refused, Numbered, Absent, IsName, partOf}
+use Rattle.demands.specs.Calls.{Finds, FindsOfTwo}
 use Rattle.demands.proofs.Exactly.{first-decides}
 use Rattle.demands.proofs.RegisterTests.{register-decides}
 use Rattle.demands.proofs.Registers.{Passed, passed, distinct-lt}
@@ -36,7 +37,7 @@ accepted-passes b e = passes-is (firstRefusal (registerTests b)) e
 pub not-refused : (b : List ℕ) → accepted b ≡ true → Refused b → ⊥
 not-refused b e r = never (sym (accepted-passes b e) ∙ first-decides (registerTests b) (registerRows b) (register-decides b) (r .0) (r .1) .1 (r .2))
 
-refused : (b : List ℕ) → accepted b ≡ false → Refused b
+pub refused : (b : List ℕ) → accepted b ≡ false → Refused b
 unfolding accepted
 refused b e = by (firstRefusal (registerTests b)) refl e
   where
@@ -107,12 +108,12 @@ module _ (b : List ℕ) (e : accepted b ≡ true) where
       (refl, refl, r .0, r .1, omega (arith, p .names, passed-it .laid .filled))
 
 -- one register: by whether it is accepted and holds the number
-data Case (b : List ℕ) (x : ℕ) : Type 0 where
+pub data Case (b : List ℕ) (x : ℕ) : Type 0 where
   here : accepted b ≡ true → (i : ℕ) → Numbered b x i → Case b x
   nowhere : accepted b ≡ true → Absent b x → Case b x
   bad : accepted b ≡ false → Case b x
 
-case : (b : List ℕ) (x : ℕ) → Case b x
+pub case : (b : List ℕ) (x : ℕ) → Case b x
 case b x = by (accepted b) refl (holds b x) refl
   where
     by : (c : Bool) → accepted b ≡ c → (d : Bool) → holds b x ≡ d → Case b x
@@ -221,14 +222,20 @@ then-empty b x (nowhere p a) h = ap (λ (r : Part). r .length) (found-absent b x
 then-empty b x (here p i n) (inl r) = absurd (not-refused b p r)
 then-empty b x (here p i n) (inr a) = absurd (a i n)
 
-pub names-kept : Names
-names-kept =
+pub finds : (b : List ℕ) (x : ℕ) → Finds b x (found b x)
+finds b x =
     record {
-      none = λ b x. (λ e. empty-then b x (case b x) e .0, then-empty b x (case b x));
-      front = λ b x e. empty-then b x (case b x) e .1;
-      one = λ b x i r n. found-name b x i (unrefused b r) n;
-      noneOfTwo = λ p c x. (λ e. none-then p c x (caseOfTwo p c x (case p x) (case c x)) e .0, then-none p c x (caseOfTwo p c x (case p x) (case c x)));
-      frontOfTwo = λ p c x e. none-then p c x (caseOfTwo p c x (case p x) (case c x)) e .1;
-      ofPlant = λ p c x i r s n a. of-plant p c x i (unrefused p r) (unrefused c s) n a;
-      ofContractor = λ p c x j r s a n. of-contractor p c x j (unrefused p r) (unrefused c s) a n;
+      none = (λ e. empty-then b x (case b x) e .0, then-empty b x (case b x));
+      front = λ e. empty-then b x (case b x) e .1;
+      name = λ i r n. found-name b x i (unrefused b r) n;
+    }
+
+pub finds-of-two : (plant contractor : List ℕ) (x : ℕ) → FindsOfTwo plant contractor x (foundOfTwo plant contractor x)
+finds-of-two p c x =
+    let two = caseOfTwo p c x (case p x) (case c x) in
+    record {
+      none = (λ e. none-then p c x two e .0, then-none p c x two);
+      front = λ e. none-then p c x two e .1;
+      ofPlant = λ i r s n a. of-plant p c x i (unrefused p r) (unrefused c s) n a;
+      ofContractor = λ j r s a n. of-contractor p c x j (unrefused p r) (unrefused c s) a n;
     }

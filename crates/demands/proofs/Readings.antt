@@ -13,13 +13,10 @@ use Rattle.basis.specs.Lists.{Each}
 use Rattle.basis.proofs.Bools.{or-true}
 use Rattle.basis.proofs.Lists.{_&_}
 use Rattle.meaning.specs.declared.RawLine.{RawLine}
-use Rattle.meaning.specs.declared.Line.{Line}
-use Rattle.meaning.specs.declared.Kind.{Kind}
-use Rattle.meaning.specs.declared.Kind.the-variants.{Fuel, FlareCarbon, FlareMethane, MetalIn, MetalOut, OpeningStock, ClosingStock, Feed, Product, ByProduct, CarbonateCharged, KilnDust, OtherCarbon, NitricAcid}
 use Rattle.meaning.specs.declared.Decoded.the-variants.{Good}
-use Rattle.meaning.specs.Methods.{carbonates, acids, within, inRange, byMethod, decoded}
+use Rattle.meaning.specs.Methods.{carbonates, within, inRange, byMethod, decoded, figured, figuresOf}
 use Rattle.meaning.specs.Masses.{Contribution, contribution}
-use Rattle.demands.specs.Table.{Among, In, adds, takes, MethodRow, Fits, content, 1-to-4, 1-to-6, table, rowAt, amount}
+use Rattle.demands.specs.Table.{Among, In, adds, takes, MethodRow, Fits, content, 1-to-4, 1-to-6, table, rowAt, kindOf, amount}
 use Rattle.demands.proofs.Among.{among-range, only, among-within}
 
 -- a line whose ranges are kept, unit by unit
@@ -32,17 +29,17 @@ behind-filler : (fs : List ℕ) (c : ℕ) → 1 ≤ c → getD (0 ∷ fs) c 0 �
 behind-filler fs zero h = absurd (omega arith)
 behind-filler fs (suc c) h = let e : suc c - 1 ≡ c = omega arith in rw e
 
--- a row reads a line: decoding yields a good line, whose contribution is what the row says
+-- a row reads a line: decoding yields a good line of the row's kind, whose contribution and figures are what the row says
 abbrev pub said : MethodRow → ℕ → RawLine → Contribution
 said r p l = record { gas = r .gas; adds = amount adds (r .gas) r p l; takes = amount takes (r .gas) r p l }
 
 abbrev pub Reads : ℕ → ℕ → RawLine → MethodRow → Type 0
-Reads m p l r = (x : Line) × (decoded m p l ≡ Good x) × (contribution (x .quantity) (x .kind) ≡ said r p l)
+Reads m p l r =
+    (decoded m p l ≡ Good (record { quantity = l .q; kind = kindOf r p l }))
+    × (contribution (l .q) (kindOf r p l) ≡ said r p l)
+    × (figuresOf (kindOf r p l) ≡ figured m (l .kind) (l .a) (l .b))
 
 module _ (m p : ℕ) (l : RawLine) where
-  good : Kind → Line
-  good kind = record { quantity = l .q; kind = kind }
-
   abbrev pub Reading : MethodRow → Type 0
   Reading r = Fits r m p l → Reads m p l r
 
@@ -70,101 +67,85 @@ module _ (m p : ℕ) (l : RawLine) where
   full-kept q a e = range-kept l q a (omega arith)
 
   fuel-gas : Reading (rowAt 0)
-  unfolding decoded byMethod good
+  unfolding decoded byMethod
   fuel-gas f =
-      let c = among-within (1 ∷ 2 ∷ []) 1 2 (l .code) (omega arith) (f .coded) in (
-        good (Fuel (l .a) (l .b)),
-        rw (f .ofMethod, only (f .ofParameter), full-kept (f .q) (f .a) (f .b), f .ofKind, any-unit (f .inUnit), c, f .b, or-true (eqb (l .code) 3)),
-        refl,
-      )
+      let c = among-within (1 ∷ 2 ∷ []) 1 2 (l .code) (omega arith) (f .coded) in
+      (rw (f .ofMethod, only (f .ofParameter), full-kept (f .q) (f .a) (f .b), f .ofKind, any-unit (f .inUnit), c, f .b, or-true (eqb (l .code) 3)), refl, rw (f .ofMethod, f .ofKind))
 
   fuel-solid : Reading (rowAt 1)
-  unfolding decoded byMethod good
+  unfolding decoded byMethod
   fuel-solid f =
-      (good (Fuel (l .a) (l .b)), rw (f .ofMethod, only (f .ofParameter), range-kept l (f .q) (f .a) (f .b), f .ofKind, any-unit (f .inUnit), only (f .coded)), refl)
+      (rw (f .ofMethod, only (f .ofParameter), range-kept l (f .q) (f .a) (f .b), f .ofKind, any-unit (f .inUnit), only (f .coded)), refl, rw (f .ofMethod, f .ofKind))
 
   flare-carbon : Reading (rowAt 2)
-  unfolding decoded byMethod good
+  unfolding decoded byMethod
   flare-carbon f =
-      (good (FlareCarbon (l .a) (l .b)), rw (f .ofMethod, only (f .ofParameter), range-kept l (f .q) (f .a) (f .b), f .ofKind, gas-unit (f .inUnit), only (f .coded)), refl)
+      (rw (f .ofMethod, only (f .ofParameter), range-kept l (f .q) (f .a) (f .b), f .ofKind, gas-unit (f .inUnit), only (f .coded)), refl, rw (f .ofMethod, f .ofKind))
 
   flare-methane : Reading (rowAt 3)
-  unfolding decoded byMethod good
-  flare-methane f = (
-    good (FlareMethane (l .a) (l .b)),
-    rw (f .ofMethod, only (f .ofParameter), range-kept l (f .q) (f .a) (f .b), f .ofKind, gas-unit (f .inUnit), only (f .coded)),
-    rw (mul-one (l .q * l .a * l .b)),
-  )
+  unfolding decoded byMethod
+  flare-methane f =
+      (rw (f .ofMethod, only (f .ofParameter), range-kept l (f .q) (f .a) (f .b), f .ofKind, gas-unit (f .inUnit), only (f .coded)), rw (mul-one (l .q * l .a * l .b)), rw (f .ofMethod, f .ofKind))
 
   metal-in : Reading (rowAt 4)
-  unfolding decoded byMethod good
+  unfolding decoded byMethod
   metal-in f =
-      (good (MetalIn (l .a)), rw (f .ofMethod, only (f .ofParameter), full-kept (f .q) (f .a) (f .b), f .ofKind, any-unit (f .inUnit), only (f .coded), f .b), rw (f .b))
+      (rw (f .ofMethod, only (f .ofParameter), full-kept (f .q) (f .a) (f .b), f .ofKind, any-unit (f .inUnit), only (f .coded), f .b), rw (f .b), rw (f .ofMethod, f .ofKind, f .b))
 
   metal-out : Reading (rowAt 5)
-  unfolding decoded byMethod good
+  unfolding decoded byMethod
   metal-out f =
-      (good (MetalOut (l .a)), rw (f .ofMethod, only (f .ofParameter), full-kept (f .q) (f .a) (f .b), f .ofKind, any-unit (f .inUnit), only (f .coded), f .b), rw (f .b))
+      (rw (f .ofMethod, only (f .ofParameter), full-kept (f .q) (f .a) (f .b), f .ofKind, any-unit (f .inUnit), only (f .coded), f .b), rw (f .b), rw (f .ofMethod, f .ofKind, f .b))
 
   opening : Reading (rowAt 6)
-  unfolding decoded byMethod good
+  unfolding decoded byMethod
   opening f =
-      (good (OpeningStock (l .a)), rw (f .ofMethod, only (f .ofParameter), full-kept (f .q) (f .a) (f .b), f .ofKind, any-unit (f .inUnit), only (f .coded), f .b), rw (f .b))
+      (rw (f .ofMethod, only (f .ofParameter), full-kept (f .q) (f .a) (f .b), f .ofKind, any-unit (f .inUnit), only (f .coded), f .b), rw (f .b), rw (f .ofMethod, f .ofKind, f .b))
 
   closing : Reading (rowAt 7)
-  unfolding decoded byMethod good
+  unfolding decoded byMethod
   closing f =
-      (good (ClosingStock (l .a)), rw (f .ofMethod, only (f .ofParameter), full-kept (f .q) (f .a) (f .b), f .ofKind, any-unit (f .inUnit), only (f .coded), f .b), rw (f .b))
+      (rw (f .ofMethod, only (f .ofParameter), full-kept (f .q) (f .a) (f .b), f .ofKind, any-unit (f .inUnit), only (f .coded), f .b), rw (f .b), rw (f .ofMethod, f .ofKind, f .b))
 
   feed : Reading (rowAt 8)
-  unfolding decoded byMethod good
+  unfolding decoded byMethod
   feed f =
       let s = up-to-six 1-to-6 (omega arith) (f .ofParameter) in
-      (good (Feed (l .a)), rw (f .ofMethod, s, full-kept (f .q) (f .a) (f .b), f .ofKind, any-unit (f .inUnit), only (f .coded), f .b), rw (f .b))
+      (rw (f .ofMethod, s, full-kept (f .q) (f .a) (f .b), f .ofKind, any-unit (f .inUnit), only (f .coded), f .b), rw (f .b), rw (f .ofMethod, f .ofKind, f .b))
 
   product : Reading (rowAt 9)
-  unfolding decoded byMethod good
+  unfolding decoded byMethod
   product f =
       let s = up-to-six 1-to-6 (omega arith) (f .ofParameter) in
-      (good (Product (l .a)), rw (f .ofMethod, s, full-kept (f .q) (f .a) (f .b), f .ofKind, any-unit (f .inUnit), only (f .coded), f .b), rw (f .b))
+      (rw (f .ofMethod, s, full-kept (f .q) (f .a) (f .b), f .ofKind, any-unit (f .inUnit), only (f .coded), f .b), rw (f .b), rw (f .ofMethod, f .ofKind, f .b))
 
   by-product : Reading (rowAt 10)
-  unfolding decoded byMethod good
+  unfolding decoded byMethod
   by-product f =
-      let s = up-to-six (2 ∷ 5 ∷ []) (omega arith) (f .ofParameter) in (
-        good (ByProduct (l .a)),
-        rw (f .ofMethod, s, full-kept (f .q) (f .a) (f .b), f .ofKind, any-unit (f .inUnit), only (f .coded), f .b, two-or-five (f .ofParameter)),
-        rw (f .b),
-      )
+      let s = up-to-six (2 ∷ 5 ∷ []) (omega arith) (f .ofParameter) in
+      (rw (f .ofMethod, s, full-kept (f .q) (f .a) (f .b), f .ofKind, any-unit (f .inUnit), only (f .coded), f .b, two-or-five (f .ofParameter)), rw (f .b), rw (f .ofMethod, f .ofKind, f .b))
 
   charged : Reading (rowAt 11)
-  unfolding decoded byMethod good
-  charged f = (
-    good (CarbonateCharged (l .a) (getD carbonates (l .code) 0) (l .b)),
-    rw (f .ofMethod, only (f .ofParameter), range-kept l (f .q) (f .a) (f .b), f .ofKind, only (f .inUnit), carbonate-code (f .coded)),
-    rw (carbonate-factor (f .coded)),
-  )
+  unfolding decoded byMethod
+  charged f =
+      (rw (f .ofMethod, only (f .ofParameter), range-kept l (f .q) (f .a) (f .b), f .ofKind, only (f .inUnit), carbonate-code (f .coded), carbonate-factor (f .coded)), refl, rw (f .ofMethod, f .ofKind))
 
   dust : Reading (rowAt 12)
-  unfolding decoded byMethod good
-  dust f = (
-    good (KilnDust (l .a) (getD carbonates (l .code) 0) (l .b)),
-    rw (f .ofMethod, only (f .ofParameter), range-kept l (f .q) (f .a) (f .b), f .ofKind, only (f .inUnit), carbonate-code (f .coded)),
-    rw (carbonate-factor (f .coded)),
-  )
+  unfolding decoded byMethod
+  dust f =
+      (rw (f .ofMethod, only (f .ofParameter), range-kept l (f .q) (f .a) (f .b), f .ofKind, only (f .inUnit), carbonate-code (f .coded), carbonate-factor (f .coded)), refl, rw (f .ofMethod, f .ofKind))
 
   other : Reading (rowAt 13)
-  unfolding decoded byMethod good
+  unfolding decoded byMethod
   other f =
-      (good (OtherCarbon (l .a)), rw (f .ofMethod, only (f .ofParameter), full-kept (f .q) (f .a) (f .b), f .ofKind, only (f .inUnit), only (f .coded), f .b), rw (f .b))
+      (rw (f .ofMethod, only (f .ofParameter), full-kept (f .q) (f .a) (f .b), f .ofKind, only (f .inUnit), only (f .coded), f .b), rw (f .b), rw (f .ofMethod, f .ofKind, f .b))
 
   nitric : Reading (rowAt 14)
-  unfolding decoded byMethod good
-  nitric f = (
-    good (NitricAcid (getD acids p 0)),
-    rw (f .ofMethod, up-to-six 1-to-6 (omega arith) (f .ofParameter), le-leb (l .q) 10000000000 (f .q), only (f .inUnit), f .a, f .b, f .ofKind, only (f .coded)),
-    rw (behind-filler (20000 ∷ 25000 ∷ 50000 ∷ 75000 ∷ 90000 ∷ 5 ∷ []) p (among-range 1-to-6 1 6 (omega arith) (f .ofParameter) .0)),
-  )
+  unfolding decoded byMethod
+  nitric f =
+      let s = up-to-six 1-to-6 (omega arith) (f .ofParameter) in
+      let acid = behind-filler (20000 ∷ 25000 ∷ 50000 ∷ 75000 ∷ 90000 ∷ 5 ∷ []) p (among-range 1-to-6 1 6 (omega arith) (f .ofParameter) .0) in
+      (rw (f .ofMethod, s, le-leb (l .q) 10000000000 (f .q), only (f .inUnit), f .a, f .b, f .ofKind, only (f .coded), acid), refl, rw (f .ofMethod, f .ofKind, f .a, f .b))
 
   pub each-reads : Each Reading table
   each-reads =

@@ -1,4 +1,4 @@
--- Combination, removal, the report check and the text refuse exactly when the table says. Assumes nothing.
+-- The tests of combination and of removal decide the table's rows; the report check. Assumes nothing.
 use mathlib.Core.Bool.{Bool, true, false, cond, _||_, not}
 use mathlib.Core.List.{List, [], _∷_, _++_}
 use mathlib.Core.Logic.{inl, inr, ⊎-elim, _≢_}
@@ -13,21 +13,20 @@ use Rattle.basis.specs.declared.Verdict.the-variants.{Passes}
 use Rattle.basis.specs.Bytes.{Bytes}
 use Rattle.basis.specs.Lists.{Each, any, without}
 use Rattle.basis.proofs.Lists.{_&_, each-map, without-none}
-use Rattle.basis.specs.Answers.{firstRefusal}
+use Rattle.basis.specs.Answers.{refuseIf, firstRefusal, answer}
 use Rattle.basis.proofs.Bools.{clash, not-both}
 use Rattle.basis.proofs.Answers.{each-passes}
 use Rattle.meaning.specs.Register.{mostSources}
-use Rattle.meaning.specs.Report.{Entry, reportLength, reportYear, entryCount, entriesOf}
-use Rattle.meaning.specs.Text.{reportText}
-use Rattle.meaning.specs.Calls.{formTest, sharedTest, countTest, roomTest, bothEntries, numbered, absentTest, combined, removed, checked, text, combinationTests, combinedReport, removalTests, removedReport}
+use Rattle.meaning.specs.Report.{Entry, reportLength, reportYear, entryCount, entriesOf, wellFormed}
+use Rattle.meaning.specs.Calls.{formTest, sharedTest, countTest, roomTest, bothEntries, numbered, absentTest, combined, checked, combinationTests, combinedReport, removalTests, removedReport}
 use Rattle.meaning.proofs.Laws.{length-inOrder}
 use Rattle.demands.specs.Valid.{Entered, Ascending, Distinct, entryNumber, Reportable}
-use Rattle.demands.specs.Demand1.{FromTable, Answers}
-use Rattle.demands.specs.Exactly.{Row, at, FirstOf, Exactly}
-use Rattle.demands.specs.Refusals.{NoReport, combinationRows, removalRows, checkRows, textLength, textRows}
+use Rattle.demands.specs.Exactly.{Row, at, FirstOf}
+use Rattle.demands.specs.Refusals.{NoReport, combinationRows, removalRows, checkRows}
+use Rattle.demands.specs.Calls.{Checks}
 use Rattle.demands.proofs.Order.{ascending-distinct}
 use Rattle.demands.proofs.Compared.{room-decides}
-use Rattle.demands.proofs.Exactly.{_then_, Decides, DecideAll, passes-nowhere, exactly, exactly-written, zero-passes, answers, answers-verdict, Numbered}
+use Rattle.demands.proofs.Exactly.{_then_, Decides, DecideAll, passes-nowhere, exactly, zero-passes, answers-verdict, Numbered}
 use Rattle.demands.proofs.Reports.{length-report}
 use Rattle.meaning.proofs.Reports.{count-is}
 use Rattle.demands.proofs.ReportTests.{form-decides, passed-form, year-decides, made-of, has, absent-decides, shared-decides, passed-shared, entries-apart, both-make, count-decides, nowhere-at}
@@ -46,7 +45,7 @@ module _ (one other : List ℕ) (h : Bytes one) (g : Bytes other) where
         length-inOrder (entriesOf one ++ entriesOf other) ∙ length-append (entriesOf one) (entriesOf other) ∙ n,
       )
 
-  both-length : formTest one 1 ≡ Passes → formTest other 2 ≡ Passes → sharedTest one other ≡ Passes → countTest one other ≡ Passes
+  pub both-length : formTest one 1 ≡ Passes → formTest other 2 ≡ Passes → sharedTest one other ≡ Passes → countTest one other ≡ Passes
       → length (combinedReport one other) ≡ reportLength (entryCount one + entryCount other)
   both-length p q s c =
       let r = both-reportable p q s c in
@@ -64,7 +63,7 @@ module _ (one other : List ℕ) (h : Bytes one) (g : Bytes other) where
       & (λ s. count-decides one other
       & (λ c. room-decides (combinedReport one other) report (reportLength (entryCount one + entryCount other)) (both-length p q s c) then tt))))
 
-  numbered-9-12 : (report : List ℕ) → Numbered (8 ∷ 9 ∷ 10 ∷ 11 ∷ 12 ∷ []) (combinationRows one other (length report))
+  pub numbered-9-12 : (report : List ℕ) → Numbered (8 ∷ 9 ∷ 10 ∷ 11 ∷ 12 ∷ []) (combinationRows one other (length report))
   numbered-9-12 report =
       record {
         positive = omega arith;
@@ -77,23 +76,6 @@ module _ (one other : List ℕ) (h : Bytes one) (g : Bytes other) where
             & (λ n p r. inl (r .0))
             & tt;
       }
-
-  pub combination-exactly : (report : List ℕ)
-      → Exactly (combinationRows one other (length report)) (reportLength (entryCount one + entryCount other)) (combined one other report .answer)
-  unfolding combined
-  combination-exactly report =
-      exactly-written
-      (combinationTests one other) (8 ∷ 9 ∷ 10 ∷ 11 ∷ 12 ∷ [])
-      (combinationRows one other (length report)) (combinedReport one other) report (reportLength (entryCount one + entryCount other))
-      (combination-decides report)
-      (numbered-9-12 report)
-      (λ e. let p = each-passes _ e in both-length (p .0) (p .1 .0) (p .1 .1 .1 .0) (p .1 .1 .1 .1 .0))
-
-  pub combination-answers : (report : List ℕ) → Answers (8 ∷ 9 ∷ 10 ∷ 11 ∷ 12 ∷ []) report (combined one other report)
-  unfolding combined
-  combination-answers report =
-      answers (combinationTests one other) (8 ∷ 9 ∷ 10 ∷ 11 ∷ 12 ∷ [])
-      (combinationRows one other (length report)) (combinedReport one other) report (combination-decides report) (numbered-9-12 report)
 
   pub combination-passed : (report : List ℕ) → combined one other report .answer .number ≡ 0
       → firstRefusal (combinationTests one other ++ (roomTest (combinedReport one other) report ∷ [])) ≡ Passes
@@ -161,7 +143,7 @@ without-make x es v =
     }
 
 module _ (report : List ℕ) (number : ℕ) (h : Bytes report) where
-  rest-length : formTest report 1 ≡ Passes → absentTest report number ≡ Passes
+  pub rest-length : formTest report 1 ≡ Passes → absentTest report number ≡ Passes
       → length (removedReport report number) ≡ reportLength (entryCount report - 1)
   rest-length p a =
       let w = passed-form report 1 p in
@@ -173,33 +155,15 @@ module _ (report : List ℕ) (number : ℕ) (h : Bytes report) where
       length-report (reportYear report) (without (numbered number) (entriesOf report)) (without-make number (entriesOf report) v)
       ∙ ap reportLength (omega (arith, one, count-is report))
 
-  removal-decides : (result : List ℕ) → DecideAll (removalTests report number ++ (roomTest (removedReport report number) result ∷ [])) (removalRows report number (length result))
+  pub removal-decides : (result : List ℕ) → DecideAll (removalTests report number ++ (roomTest (removedReport report number) result ∷ [])) (removalRows report number (length result))
   removal-decides result =
       form-decides report 1 h
       & (λ p. absent-decides report number h (passed-form report 1 p)
       & (λ a. room-decides (removedReport report number) result (reportLength (entryCount report - 1)) (rest-length p a) then tt))
 
-  numbered-9-13 : (result : List ℕ) → Numbered (8 ∷ 9 ∷ 13 ∷ []) (removalRows report number (length result))
+  pub numbered-9-13 : (result : List ℕ) → Numbered (8 ∷ 9 ∷ 13 ∷ []) (removalRows report number (length result))
   numbered-9-13 result =
       record { positive = omega arith; among = (λ n p r. inr (inl (r .0))) & (λ n p r. inr (inr (inl (r .0)))) & (λ n p r. inl (r .0)) & tt }
-
-  pub removal-exactly : (result : List ℕ)
-      → Exactly (removalRows report number (length result)) (reportLength (entryCount report - 1)) (removed report number result .answer)
-  unfolding removed
-  removal-exactly result =
-      exactly-written (removalTests report number) (8 ∷ 9 ∷ 13 ∷ []) (removalRows report number (length result)) (removedReport report number) result
-      (reportLength (entryCount report - 1)) (removal-decides result) (numbered-9-13 result) (λ e. let p = each-passes _ e in rest-length (p .0) (p .1 .0))
-
-  pub removal-answers : (result : List ℕ) → Answers (8 ∷ 9 ∷ 13 ∷ []) result (removed report number result)
-  unfolding removed
-  removal-answers result =
-      answers (removalTests report number) (8 ∷ 9 ∷ 13 ∷ []) (removalRows report number (length result)) (removedReport report number) result (removal-decides result) (numbered-9-13 result)
-
-  pub removal-passed : (result : List ℕ) → removed report number result .answer .number ≡ 0
-      → firstRefusal (removalTests report number ++ (roomTest (removedReport report number) result ∷ [])) ≡ Passes
-  unfolding removed
-  removal-passed result e =
-      zero-passes (removalTests report number) (8 ∷ 9 ∷ 13 ∷ []) (removalRows report number (length result)) (removedReport report number) result (removal-decides result) (numbered-9-13 result) e
 
 first-decides-one : (v : Verdict) (row : Row) → Decides v row → Decides v (FirstOf (row ∷ []))
 first-decides-one v row d n p = (λ e. inl (d n p .0 e), λ r. ⊎-elim (λ q. d n p .1 q) (λ q. absurd (q .1)) r)
@@ -211,33 +175,15 @@ module _ (report : List ℕ) (h : Bytes report) where
   check-decides : Decides (formTest report 1) (FirstOf (checkRows report))
   check-decides = first-decides-one (formTest report 1) (at 9 1 (NoReport report)) (form-decides report 1 h)
 
-  pub check-exactly : Exactly (checkRows report) (length report) (checked report)
+  pub check : Checks report (checked report)
   unfolding checked
-  check-exactly = exactly (formTest report 1) (9 ∷ []) (checkRows report) (length report) (length report) check-decides numbered-9 (λ e. refl)
-
-  pub check-answers : FromTable (9 ∷ []) (checked report)
-  unfolding checked
-  check-answers = answers-verdict (formTest report 1) (9 ∷ []) (checkRows report) (length report) check-decides numbered-9
-
-  abbrev shown : List ℕ
-  shown = reportText (reportYear report) (entriesOf report)
-
-  text-decides : (buffer : List ℕ) → DecideAll (formTest report 1 ∷ roomTest shown buffer ∷ []) (textRows report (length buffer))
-  text-decides buffer = (form-decides report 1 h, λ p. (room-decides shown buffer (textLength report) refl, λ _. tt))
-
-  numbered-8-9 : (buffer : List ℕ) → Numbered (8 ∷ 9 ∷ []) (textRows report (length buffer))
-  numbered-8-9 buffer = record { positive = omega arith; among = (λ n p r. inr (inl (r .0))) & (λ n p r. inl (r .0)) & tt }
-
-  pub text-exactly : (buffer : List ℕ) → Exactly (textRows report (length buffer)) (textLength report) (text report buffer .answer)
-  unfolding text
-  text-exactly buffer =
-      exactly-written (formTest report 1 ∷ []) (8 ∷ 9 ∷ []) (textRows report (length buffer)) shown buffer (textLength report) (text-decides buffer) (numbered-8-9 buffer) (λ e. refl)
-
-  pub text-answers : (buffer : List ℕ) → Answers (8 ∷ 9 ∷ []) buffer (text report buffer)
-  unfolding text
-  text-answers buffer =
-      answers (formTest report 1 ∷ []) (8 ∷ 9 ∷ []) (textRows report (length buffer)) shown buffer (text-decides buffer) (numbered-8-9 buffer)
-
-  pub text-passed : (buffer : List ℕ) → text report buffer .answer .number ≡ 0 → firstRefusal (formTest report 1 ∷ roomTest shown buffer ∷ []) ≡ Passes
-  unfolding text
-  text-passed buffer e = zero-passes (formTest report 1 ∷ []) (8 ∷ 9 ∷ []) (textRows report (length buffer)) shown buffer (text-decides buffer) (numbered-8-9 buffer) e
+  check =
+      record {
+        fromTable = answers-verdict (formTest report 1) (9 ∷ []) (checkRows report) (length report) check-decides numbered-9;
+        exactly = exactly (formTest report 1) (9 ∷ []) (checkRows report) (length report) check-decides numbered-9;
+        judged = judged (not (wellFormed report));
+      }
+    where
+      judged : (wrong : Bool) → answer (refuseIf wrong 9 1) (length report) .number ≡ 0 → answer (refuseIf wrong 9 1) (length report) .length ≡ length report
+      judged false e = refl
+      judged true e = absurd (omega arith)

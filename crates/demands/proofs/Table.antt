@@ -199,7 +199,7 @@ row-found m p l e =
 
 pub bad-exactly : (m p : ℕ) (l : RawLine) → (decoded m p l ≡ Bad) ↔ NoRow m p l
 bad-exactly m p l = (
-  λ e i f. let r = each-at (Reading m p l) table (rowAt 15) (each-reads m p l) i (f .0) (f .1) in bad-good (sym e ∙ r .1),
+  λ e i f. let r = each-at (Reading m p l) table (rowAt 15) (each-reads m p l) i (f .0) (f .1) in bad-good (sym e ∙ r .0),
   λ none. by (decoded m p l) refl none,
 )
   where

@@ -16,7 +16,7 @@ use Rattle.meaning.specs.declared.RawLine.{RawLine}
 use Rattle.meaning.specs.Methods.{decoded}
 use Rattle.meaning.specs.Masses.{contributionOf}
 use Rattle.demands.specs.Table.{Among, Sign, adds, takes, MethodRow, Fits, table, rowAt, FitsAt, factorFor, productOf, same, amount, Tabled}
-use Rattle.demands.proofs.Readings.{said, Reading, each-reads}
+use Rattle.demands.proofs.Readings.{said, Reads, Reading, each-reads}
 use Rattle.demands.proofs.Table.{bad-exactly}
 
 -- two rows differ in method, or in kind, or have no code in common
@@ -82,9 +82,12 @@ once m p i j l f g = by (decLt i j) (decLt j i)
     by (no h) (yes q) = absurd (not-before m p j i l g f q)
     by (no h) (no q) = omega arith
 
--- what a row says, it says of its own gas alone
+-- a row that fits reads the line; what it says, it says of its own gas alone
+reads : (m p i : ℕ) (l : RawLine) → FitsAt i m p l → Reads m p l (rowAt i)
+reads m p i l f = each-at (Reading m p l) table (rowAt 15) (each-reads m p l) i (f .0) (f .1)
+
 contributed : (m p i : ℕ) (l : RawLine) → FitsAt i m p l → contributionOf (decoded m p l) ≡ said (rowAt i) p l
-contributed m p i l f = let r = each-at (Reading m p l) table (rowAt 15) (each-reads m p l) i (f .0) (f .1) in ap contributionOf (r .1) ∙ r .2
+contributed m p i l f = let r = reads m p i l f in ap contributionOf (r .0) ∙ r .1
 
 cond-both : (c d : Bool) (n : ℕ) → cond d (cond (c && true) n 0) 0 ≡ cond (c && d) n 0
 cond-both true true n = refl
@@ -100,6 +103,8 @@ tabled =
     record {
       bad = bad-exactly;
       once = once;
+      good = λ m p i l f. reads m p i l f .0;
+      numbered = λ m p i l f. reads m p i l f .2;
       added = λ m p i gas l f. rw (contributed m p i l f) (gas-alone adds gas (rowAt i) p l);
       taken = λ m p i gas l f. rw (contributed m p i l f) (gas-alone takes gas (rowAt i) p l);
     }

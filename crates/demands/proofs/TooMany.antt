@@ -15,7 +15,7 @@ use Rattle.demands.specs.Algebra.{refusal}
 use Rattle.demands.specs.Shown.{many}
 use Rattle.demands.proofs.Reports.{year-back, count-back, report-bytes}
 use Rattle.demands.proofs.Holds.{is-report}
-use Rattle.demands.proofs.ReportCalls.{combination-exactly}
+use Rattle.demands.proofs.Calls.{combination}
 use Rattle.demands.proofs.Combined.{apart-nowhere}
 
 module _ (y : ℕ) (xs zs : List Entry) (v : Reportable y xs) (w : Reportable y zs) (a : Each (λ x. Each (λ z. entryNumber x ≢ entryNumber z) zs) xs) where
@@ -24,7 +24,7 @@ module _ (y : ℕ) (xs zs : List Entry) (v : Reportable y xs) (w : Reportable y 
       let one = reportBytes y xs in
       let other = reportBytes y zs in
       let n : length xs + length zs ≡ entriesIn one + entriesIn other = sym (ap₂ _+_ (count-back y xs v) (count-back y zs w)) in
-      combination-exactly one other (report-bytes y xs v) (report-bytes y zs w) buffer .refused 12 (length xs + length zs) (omega arith) .1
+      combination one other (report-bytes y xs v) (report-bytes y zs w) buffer .exactly .refused 12 (length xs + length zs) (omega arith) .1
       (inr (
         λ m q r. r .2 y xs (is-report y xs v),
         inr (

@@ -1,16 +1,14 @@
 -- "1. Registers and reports of arbitrary bytes and length get an answer, and every answer comes to an end. Each entry point tests its own
 -- input. A refusal gives its number and place from the table, and the report buffer holds what it held." That each call ends, and tests its
 -- own input, is what contracts without a `requires` say of the functions; here is what any answer is. Assumes nothing.
-use mathlib.Core.List.{List, [], _∷_}
+use mathlib.Core.List.{List}
 use mathlib.Core.Logic.{_⊎_, _≢_}
 use mathlib.Core.Path.{_≡_}
 use Prim.Native.Nat.{ℕ}
 use lib.ListN.{length}
 use Rattle.basis.specs.declared.Answer.{Answer}
-use Rattle.basis.specs.Bytes.{Bytes}
 use Rattle.basis.specs.Answers.{Outcome}
 use Rattle.demands.specs.Table.{Among}
-use Rattle.meaning.specs.Calls.{calculated, combined, removed, checked, text}
 
 -- acceptance with place 0, or a number of those that the table has for the call, with length 0
 abbrev pub FromTable : List ℕ → Answer → Type 0
@@ -21,10 +19,3 @@ pub record Answers (numbers : List ℕ) (buffer : List ℕ) (o : Outcome) : Type
   pub fromTable : FromTable numbers (o .answer)
   pub held : o .answer .number ≢ 0 → o .left ≡ buffer
   pub sized : length (o .left) ≡ length buffer
-
-pub record Demand1 : Type 0 where
-  pub calculation : (register report : List ℕ) → Bytes register → Answers (1 ∷ 2 ∷ 3 ∷ 4 ∷ 5 ∷ 6 ∷ 7 ∷ 8 ∷ []) report (calculated register report)
-  pub combination : (one other report : List ℕ) → Bytes one → Bytes other → Answers (8 ∷ 9 ∷ 10 ∷ 11 ∷ 12 ∷ []) report (combined one other report)
-  pub removal : (report result : List ℕ) (number : ℕ) → Bytes report → Answers (8 ∷ 9 ∷ 13 ∷ []) result (removed report number result)
-  pub check : (report : List ℕ) → Bytes report → FromTable (9 ∷ []) (checked report)
-  pub shown : (report buffer : List ℕ) → Bytes report → Answers (8 ∷ 9 ∷ []) buffer (text report buffer)

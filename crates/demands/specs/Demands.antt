@@ -3,25 +3,26 @@ use Rattle.meaning.specs.Starred.{Starred}
 use Rattle.meaning.specs.Kinds.{Kinds}
 use Rattle.meaning.specs.Examples.{Examples}
 use Rattle.meaning.specs.ByHand.{ByHand}
+use Rattle.demands.specs.Words.{Words}
 use Rattle.demands.specs.Table.{Tabled}
 use Rattle.demands.specs.Text.{Texts, Longest}
-use Rattle.demands.specs.Demand1.{Demand1}
-use Rattle.demands.specs.Demand2.{Refusals, Masses, Fixed, Encodings, Names}
+use Rattle.demands.specs.Demand2.{Masses, Encodings}
+use Rattle.demands.specs.Calls.{Calls}
+use Rattle.demands.specs.Fixed.{Fixed}
 use Rattle.demands.specs.Demand3.{Dealing, EveryDealing, Neutral, Again, SourceAgain}
 use Rattle.demands.specs.Algebra.{Algebra}
 use Rattle.demands.specs.Shown.{Shown}
 
 pub record Demands : Type 1 where
-  -- the method table
+  -- the words shared with the meaning, and the method table
+  pub words : Words
   pub tabled : Tabled
-  -- 1
-  pub answers : Demand1
-  -- 2
-  pub refusals : Refusals
-  pub masses : Masses
+  -- 1 and 2, call by call, and that what is said of a call is said of one outcome alone
+  pub calls : Calls
   pub fixed : Fixed
+  -- 2
+  pub masses : Masses
   pub encodings : Encodings
-  pub names : Names
   pub texts : Texts
   pub longest : Longest
   -- 3

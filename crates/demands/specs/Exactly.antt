@@ -28,9 +28,8 @@ abbrev pub FirstOf : List Row → Row
 FirstOf [] n p = ⊥
 FirstOf (row ∷ rows) n p = row n p ⊎ (Nowhere row × FirstOf rows n p)
 
--- an answer is given exactly when the table says: a number and place where a row refuses so and no earlier one refuses; acceptance, with place 0
--- and this length, where no row refuses
-pub record Exactly (rows : List Row) (length : ℕ) (a : Answer) : Type 0 where
+-- an answer is given exactly when the table says: a number and place where a row refuses so and no earlier one refuses; acceptance where no row
+-- refuses
+pub record Exactly (rows : List Row) (a : Answer) : Type 0 where
   pub refused : (n p : ℕ) → n ≢ 0 → (a ≡ record { number = n; place = p; length = 0 }) ↔ FirstOf rows n p
   pub accepted : (a .number ≡ 0) ↔ ((n p : ℕ) → FirstOf rows n p → ⊥)
-  pub answer : a .number ≡ 0 → a ≡ record { number = 0; place = 0; length = length }

@@ -1,12 +1,15 @@
+pub mod Words
 pub mod Table
 pub mod Fields
 pub mod Valid
+pub mod Text
 pub mod Exactly
 pub mod Refusals
 pub mod Trees
-pub mod Text
 pub mod Demand1
 pub mod Demand2
+pub mod Calls
+pub mod Fixed
 pub mod Demand3
 pub mod Algebra
 pub mod Shown

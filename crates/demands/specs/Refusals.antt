@@ -6,11 +6,11 @@ use Prim.Native.Nat.{ℕ, _+_, _*_, _-_, _≤_, _<_, _^_}
 use lib.ListN.{length, take}
 use Rattle.basis.specs.Bytes.{numberAt}
 use Rattle.meaning.specs.declared.RawLine.{RawLine}
-use Rattle.meaning.specs.Report.{Entry, entriesOf}
-use Rattle.meaning.specs.Text.{reportText}
+use Rattle.meaning.specs.Report.{Entry}
 use Rattle.demands.specs.Table.{Among, 1-to-6, CO2, CH4, N2O, adds, takes, NoRow, FitAll, total, Nearest}
 use Rattle.demands.specs.Fields.{yearIn, sourcesIn, linesIn, nameBytesIn, number, method, parameter, lineCount, firstLine, nameLength, nameOffset, linesBefore, namesBefore, nameByte, lineAt, linesOf, reportYear, entriesIn, reportNumber}
 use Rattle.demands.specs.Valid.{IsReport}
+use Rattle.demands.specs.Text.{IsText}
 use Rattle.demands.specs.Exactly.{Row, at, atSmallest, withNumber}
 
 -- 2: "a header field is wrong", its first byte
@@ -93,10 +93,11 @@ abbrev pub roomRow : ℕ → ℕ → Row
 roomRow entries room = at 8 (56 + 40 * entries) (room < 56 + 40 * entries)
 
 -- "Calculation tests 1, 2 by field, 3 over all sources, 4 over all, 5 over all lines, then 6 and 7 source by source in table order, then 8"
+abbrev pub sourceRows : List ℕ → List Row
+sourceRows b = registerRows b ++ (atSmallest (linesIn b) (withNumber 5 (BadLine b)) ∷ atSmallest (sourcesIn b) (MassFault b) ∷ [])
+
 abbrev pub calculationRows : List ℕ → ℕ → List Row
-calculationRows b room =
-    registerRows b
-    ++ (atSmallest (linesIn b) (withNumber 5 (BadLine b)) ∷ atSmallest (sourcesIn b) (MassFault b) ∷ roomRow (sourcesIn b) room ∷ [])
+calculationRows b room = sourceRows b ++ (roomRow (sourcesIn b) room ∷ [])
 
 -- 9: the bytes are the report of no year and entries
 abbrev pub NoReport : List ℕ → Type 0
@@ -130,8 +131,8 @@ abbrev pub checkRows : List ℕ → List Row
 checkRows report = at 9 1 (NoReport report) ∷ []
 
 -- a text: 9, then 8 with the text's length
-abbrev pub textLength : List ℕ → ℕ
-textLength report = length (reportText (reportYear report) (entriesOf report))
+abbrev pub TextLength : List ℕ → ℕ → Type 0
+TextLength report n = (t : List ℕ) × IsText report t × (length t ≡ n)
 
 abbrev pub textRows : List ℕ → ℕ → List Row
-textRows report room = at 9 1 (NoReport report) ∷ at 8 (textLength report) (room < textLength report) ∷ []
+textRows report room = at 9 1 (NoReport report) ∷ (λ n p. (n ≡ 8) × TextLength report p × (room < p)) ∷ []

@@ -8,8 +8,10 @@ use Prim.Native.Nat.{ℕ, _+_, _*_, _-_, _≤_, _<_}
 use lib.Dec.{eqb}
 use lib.ListN.{length, getD}
 use Rattle.meaning.specs.declared.RawLine.{RawLine}
-use Rattle.meaning.specs.declared.Decoded.the-variants.{Bad}
-use Rattle.meaning.specs.Methods.{decoded}
+use Rattle.meaning.specs.declared.Kind.{Kind}
+use Rattle.meaning.specs.declared.Kind.the-variants.{Fuel, FlareCarbon, FlareMethane, MetalIn, MetalOut, OpeningStock, ClosingStock, Feed, Product, ByProduct, CarbonateCharged, KilnDust, OtherCarbon, NitricAcid}
+use Rattle.meaning.specs.declared.Decoded.the-variants.{Good, Bad}
+use Rattle.meaning.specs.Methods.{decoded, figuresOf}
 use Rattle.meaning.specs.Masses.{addsTo, takesFrom}
 
 -- a number is one of a list
@@ -42,8 +44,8 @@ In (upTo n) unit x = x ≤ n
 In (byUnit tonne other) unit x = ((unit ≡ 1) × (x ≤ tonne)) ⊎ ((unit ≢ 1) × (x ≤ other))
 
 -- what a line's quantity is multiplied by before the factor: A and B, A and what is left of B, or nothing
-pub data Product : Type 0 where
-  Q·A·B Q·A·[10000-B] Q : Product
+pub data Times : Type 0 where
+  Q·A·B Q·A·[10000-B] Q : Times
 
 -- a factor: one for every line, or one for each code or parameter, those of 1, 2, 3 and so on
 pub data Factor : Type 0 where
@@ -61,11 +63,12 @@ pub record MethodRow : Type 0 where
   pub b : Range
   pub gas : ℕ
   pub sign : Sign
-  pub product : Product
+  pub product : Times
   pub factor : Factor
+  pub is : ℕ → ℕ → ℕ → Kind
 
-abbrev pub row : ℕ → List ℕ → ℕ → List ℕ → List ℕ → Range → Range → ℕ → Sign → Product → Factor → MethodRow
-row method parameters kind units codes a b gas sign product factor =
+abbrev pub row : ℕ → List ℕ → ℕ → List ℕ → List ℕ → Range → Range → ℕ → Sign → Times → Factor → (ℕ → ℕ → ℕ → Kind) → MethodRow
+row method parameters kind units codes a b gas sign product factor is =
     record {
       method = method;
       parameters = parameters;
@@ -78,6 +81,7 @@ row method parameters kind units codes a b gas sign product factor =
       sign = sign;
       product = product;
       factor = factor;
+      is = is;
     }
 
 -- what parameters, units and codes may be
@@ -115,30 +119,31 @@ carbonate = byCode (440 ∷ 522 ∷ 477 ∷ 380 ∷ [])
 abbrev pub acid : Factor
 acid = byParameter (20000 ∷ 25000 ∷ 50000 ∷ 75000 ∷ 90000 ∷ 5 ∷ [])
 
--- Method, parameters, kind, units (1 tonne, 2 thousand m3, 3 tonne of standard fuel, 4 TJ), codes, A, B; then gas, sign, product and factor
+-- Method, parameters, kind, units (1 tonne, 2 thousand m3, 3 tonne of standard fuel, 4 TJ), codes, A, B; then gas, sign, product and factor; then
+-- the kind by its name, of A, B and the factor
 abbrev pub table : List MethodRow
 table =
     -- 1 fuel: gas and liquid; solid
-    row 1 (just 0) 1 1-to-4 1-or-2 content (exactly 10000) CO2 adds Q·A·B carbon
-    ∷ row 1 (just 0) 1 1-to-4 (just 3) content share CO2 adds Q·A·B carbon
+    row 1 (just 0) 1 1-to-4 1-or-2 content (exactly 10000) CO2 adds Q·A·B carbon (λ a b f. Fuel a b)
+    ∷ row 1 (just 0) 1 1-to-4 (just 3) content share CO2 adds Q·A·B carbon (λ a b f. Fuel a b)
     -- 2 flare: carbon that burns; methane that does not
-    ∷ row 2 (just 0) 1 1-or-2 (just 0) content share CO2 adds Q·A·[10000-B] carbon
-    ∷ row 2 (just 0) 2 1-or-2 (just 0) content share CH4 adds Q·A·B (always 1)
+    ∷ row 2 (just 0) 1 1-or-2 (just 0) content share CO2 adds Q·A·[10000-B] carbon (λ a b f. FlareCarbon a b)
+    ∷ row 2 (just 0) 2 1-or-2 (just 0) content share CH4 adds Q·A·B (always 1) (λ a b f. FlareMethane a b)
     -- 3 metals: in, out, opening stock, closing stock
-    ∷ row 3 (just 0) 10 1-to-4 (just 0) content (exactly 10000) CO2 adds Q·A·B carbon
-    ∷ row 3 (just 0) 11 1-to-4 (just 0) content (exactly 10000) CO2 takes Q·A·B carbon
-    ∷ row 3 (just 0) 12 1-to-4 (just 0) content (exactly 10000) CO2 adds Q·A·B carbon
-    ∷ row 3 (just 0) 13 1-to-4 (just 0) content (exactly 10000) CO2 takes Q·A·B carbon
+    ∷ row 3 (just 0) 10 1-to-4 (just 0) content (exactly 10000) CO2 adds Q·A·B carbon (λ a b f. MetalIn a)
+    ∷ row 3 (just 0) 11 1-to-4 (just 0) content (exactly 10000) CO2 takes Q·A·B carbon (λ a b f. MetalOut a)
+    ∷ row 3 (just 0) 12 1-to-4 (just 0) content (exactly 10000) CO2 adds Q·A·B carbon (λ a b f. OpeningStock a)
+    ∷ row 3 (just 0) 13 1-to-4 (just 0) content (exactly 10000) CO2 takes Q·A·B carbon (λ a b f. ClosingStock a)
     -- 4 petrochemical: feed, product, by-product
-    ∷ row 4 1-to-6 10 1-to-4 (just 0) content (exactly 10000) CO2 adds Q·A·B carbon
-    ∷ row 4 1-to-6 11 1-to-4 (just 0) content (exactly 10000) CO2 takes Q·A·B carbon
-    ∷ row 4 2-or-5 14 1-to-4 (just 0) content (exactly 10000) CO2 takes Q·A·B carbon
+    ∷ row 4 1-to-6 10 1-to-4 (just 0) content (exactly 10000) CO2 adds Q·A·B carbon (λ a b f. Feed a)
+    ∷ row 4 1-to-6 11 1-to-4 (just 0) content (exactly 10000) CO2 takes Q·A·B carbon (λ a b f. Product a)
+    ∷ row 4 2-or-5 14 1-to-4 (just 0) content (exactly 10000) CO2 takes Q·A·B carbon (λ a b f. ByProduct a)
     -- 5 cement: carbonate charged, kiln dust not returned, carbon other than fuel
-    ∷ row 5 (just 0) 20 (just 1) 1-to-4 content share CO2 adds Q·A·B carbonate
-    ∷ row 5 (just 0) 21 (just 1) 1-to-4 content share CO2 takes Q·A·[10000-B] carbonate
-    ∷ row 5 (just 0) 22 (just 1) (just 0) content (exactly 10000) CO2 adds Q·A·B carbon
+    ∷ row 5 (just 0) 20 (just 1) 1-to-4 content share CO2 adds Q·A·B carbonate (λ a b f. CarbonateCharged a f b)
+    ∷ row 5 (just 0) 21 (just 1) 1-to-4 content share CO2 takes Q·A·[10000-B] carbonate (λ a b f. KilnDust a f b)
+    ∷ row 5 (just 0) 22 (just 1) (just 0) content (exactly 10000) CO2 adds Q·A·B carbon (λ a b f. OtherCarbon a)
     -- 6 nitric acid
-    ∷ row 6 1-to-6 30 (just 1) (just 0) (exactly 0) (exactly 0) N2O adds Q acid
+    ∷ row 6 1-to-6 30 (just 1) (just 0) (exactly 0) (exactly 0) N2O adds Q acid (λ a b f. NitricAcid f)
     ∷ []
 
 -- a row fits a line of a method and parameter
@@ -155,7 +160,7 @@ pub record Fits (r : MethodRow) (method parameter : ℕ) (l : RawLine) : Type 0 
 
 -- a row of the table, by its index
 abbrev pub rowAt : ℕ → MethodRow
-rowAt i = getD table i (row 0 [] 0 [] [] (exactly 0) (exactly 0) CO2 adds Q (always 0))
+rowAt i = getD table i (row 0 [] 0 [] [] (exactly 0) (exactly 0) CO2 adds Q (always 0) (λ a b f. NitricAcid f))
 
 abbrev pub FitsAt : ℕ → ℕ → ℕ → RawLine → Type 0
 FitsAt i method parameter l = (i < length table) × Fits (rowAt i) method parameter l
@@ -169,7 +174,11 @@ factorFor (always f) parameter l = f
 factorFor (byCode fs) parameter l = getD fs (l .code - 1) 0
 factorFor (byParameter fs) parameter l = getD fs (parameter - 1) 0
 
-abbrev pub productOf : Product → RawLine → ℕ
+-- the kind of a line that a row fits, with its own figures
+abbrev pub kindOf : MethodRow → ℕ → RawLine → Kind
+kindOf r parameter l = r .is (l .a) (l .b) (factorFor (r .factor) parameter l)
+
+abbrev pub productOf : Times → RawLine → ℕ
 productOf Q·A·B l = l .q * l .a * l .b
 productOf Q·A·[10000-B] l = l .q * l .a * (10000 - l .b)
 productOf Q l = l .q
@@ -201,10 +210,14 @@ total sign gas parameter (i ∷ rows) (l ∷ ls) = amount sign gas (rowAt i) par
 abbrev pub Nearest : ℕ → ℕ → ℕ → Type 0
 Nearest n d r = (2 * n < (2 * r + 1) * d) × (2 * r * d ≤ 2 * n + d)
 
--- Decoding goes by the table, for every line of every method and parameter: bad exactly if no row fits; no two rows fit; a line that a row fits
--- counts as the row says, with its sign, for its gas, and nothing for any other.
+-- Decoding goes by the table, for every line of every method and parameter: bad exactly if no row fits; no two rows fit; a line that a row fits is
+-- of the row's kind, with its own quantity, content and share, and counts as the row says, with its sign, for its gas, and nothing for any other.
 pub record Tabled : Type 0 where
   pub bad : (method parameter : ℕ) (l : RawLine) → (decoded method parameter l ≡ Bad) ↔ NoRow method parameter l
   pub once : (method parameter i j : ℕ) (l : RawLine) → FitsAt i method parameter l → FitsAt j method parameter l → i ≡ j
+  pub good : (method parameter i : ℕ) (l : RawLine) → FitsAt i method parameter l
+      → decoded method parameter l ≡ Good (record { quantity = l .q; kind = kindOf (rowAt i) parameter l })
+  pub numbered : (method parameter i : ℕ) (l : RawLine) → FitsAt i method parameter l
+      → figuresOf (kindOf (rowAt i) parameter l) ≡ record { method = method; kind = l .kind; a = l .a; b = l .b }
   pub added : (method parameter i gas : ℕ) (l : RawLine) → FitsAt i method parameter l → addsTo gas (decoded method parameter l) ≡ amount adds gas (rowAt i) parameter l
   pub taken : (method parameter i gas : ℕ) (l : RawLine) → FitsAt i method parameter l → takesFrom gas (decoded method parameter l) ≡ amount takes gas (rowAt i) parameter l

@@ -4,6 +4,7 @@ pub mod Register
 pub mod Report
 pub mod Text
 pub mod Calls
+pub mod Programs
 pub mod Parts
 pub mod Starred
 pub mod Examples

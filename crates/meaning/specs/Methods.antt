@@ -4,6 +4,8 @@ use mathlib.Core.List.{List, [], _∷_}
 use Prim.Native.Nat.{ℕ}
 use lib.Dec.{eqb, leb}
 use lib.ListN.{getD}
+use Rattle.basis.specs.declared.Verdict.{Verdict}
+use Rattle.basis.specs.declared.Verdict.the-variants.{Passes, Refuses}
 use Rattle.meaning.specs.declared.RawLine.{RawLine}
 use Rattle.meaning.specs.declared.Kind.{Kind}
 use Rattle.meaning.specs.declared.Kind.the-variants.{Fuel, FlareCarbon, FlareMethane, MetalIn, MetalOut, OpeningStock, ClosingStock, Feed, Product, ByProduct, CarbonateCharged, KilnDust, OtherCarbon, NitricAcid}
@@ -53,6 +55,32 @@ acids = 0 ∷ 20000 ∷ 25000 ∷ 50000 ∷ 75000 ∷ 90000 ∷ 5 ∷ []
 
 abbrev pub factorOf : List ℕ → ℕ → ℕ
 factorOf table code = getD table code 0
+
+-- A kind in this paper's figures: the method that has it, its number, and what its A and B are
+pub record KindFigures : Type 0 where
+  pub method : ℕ
+  pub kind : ℕ
+  pub a : ℕ
+  pub b : ℕ
+
+abbrev pub figured : ℕ → ℕ → ℕ → ℕ → KindFigures
+figured method kind a b = record { method = method; kind = kind; a = a; b = b }
+
+abbrev pub figuresOf : Kind → KindFigures
+figuresOf (Fuel carbon oxidised) = figured 1 1 carbon oxidised
+figuresOf (FlareCarbon carbon unburned) = figured 2 1 carbon unburned
+figuresOf (FlareMethane methane unburned) = figured 2 2 methane unburned
+figuresOf (MetalIn carbon) = figured 3 10 carbon whole
+figuresOf (MetalOut carbon) = figured 3 11 carbon whole
+figuresOf (OpeningStock carbon) = figured 3 12 carbon whole
+figuresOf (ClosingStock carbon) = figured 3 13 carbon whole
+figuresOf (Feed carbon) = figured 4 10 carbon whole
+figuresOf (Product carbon) = figured 4 11 carbon whole
+figuresOf (ByProduct carbon) = figured 4 14 carbon whole
+figuresOf (CarbonateCharged share factor calcined) = figured 5 20 share calcined
+figuresOf (KilnDust share factor calcined) = figured 5 21 share calcined
+figuresOf (OtherCarbon carbon) = figured 5 22 carbon whole
+figuresOf (NitricAcid factor) = figured 6 30 0 0
 
 -- a line of the kind where the test holds, and else what follows
 abbrev pub given : Bool → RawLine → Kind → Decoded → Decoded
@@ -141,3 +169,8 @@ decoded method parameter l = cond (listed method parameter && inRange l) (byMeth
 abbrev pub isBad : Decoded → Bool
 isBad (Good l) = false
 isBad Bad = true
+
+-- what decoding yields, as this paper answers it of line j: a good line passes, a bad one is refusal 5 at its place
+abbrev pub refusalOf : Decoded → ℕ → Verdict
+refusalOf (Good l) j = Passes
+refusalOf Bad j = Refuses 5 j

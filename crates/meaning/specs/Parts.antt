@@ -9,7 +9,7 @@ use Rattle.meaning.specs.Calls.{found, foundOfTwo}
 
 -- r is the part of lent bytes that begins at an offset and has a length
 abbrev pub IsPart : RefT (List ℕ) → ℕ → ℕ → RefT (List ℕ) → Type 0
-IsPart lent offset length r = Shows (now lent) (ptr lent .0) (ptr lent .1) offset length (now r) (ptr r)
+IsPart lent offset size r = Shows (now lent) (ptr lent .0) (ptr lent .1) offset size (now r) (ptr r)
 
 -- "The name found for a number is the part of the lent register where it stands, not a copy"
 abbrev pub IsName : RefT (List ℕ) → ℕ → RefT (List ℕ) → Type 0

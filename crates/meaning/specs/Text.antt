@@ -34,3 +34,7 @@ reportText year es = textLine (year ∷ length es ∷ totals es) ++ joined (map 
 -- "A refusal is the line `refused`, number, place"
 unfoldable pub refusedLine : ℕ → ℕ → List ℕ
 refusedLine number place = ascii "refused " ++ textLine (number ∷ place ∷ [])
+
+-- the line of a call that leaves a file: `accepted`, length
+unfoldable pub acceptedLine : ℕ → List ℕ
+acceptedLine size = ascii "accepted " ++ textLine (size ∷ [])

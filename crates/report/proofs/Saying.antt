@@ -8,11 +8,10 @@ use Rattle.basis.specs.declared.Answer.{Answer}
 use Rattle.basis.specs.Answers.{Outcome, Gives}
 use Rattle.meaning.specs.Text.{refusedLine}
 use Rattle.meaning.specs.Calls.{calculationTests, calculatedReport, calculated}
+use Rattle.meaning.specs.Programs.{front, said, textOutput, output}
 use Rattle.digits.specs.Digits.{Fronted}
-use Rattle.saying.specs.Saying.{front, said, textOutput}
 use Rattle.saying.proofs.Saying.{written-front, said-made, said-refused}
 use Rattle.files.proofs.Longer.{calculated-same}
-use Rattle.report.specs.Output.{output}
 
 module _ (register : List ℕ) {a : Answer} {left : List ℕ} (g : Gives (calculated register (replicate 20537 0)) a left) where
   output-is : (room : List ℕ) → output register room ≡ said a (textOutput (take (a .length) left) room)

@@ -2,8 +2,8 @@
 // of a refusal.
 ghost use Prim.Native.Nat.{_≤_};
 ghost use lib.ListN.{length};
+ghost use Rattle.meaning.specs.Programs.{output as Programs·output};
 ghost use Rattle.digits.specs.Digits.{Fronted};
-ghost use Rattle.report.specs.Output.{output as Output·output};
 use files::Input;
 use files::REGISTER_ROOM;
 use files::REPORT_ROOM;
@@ -13,7 +13,7 @@ use texts::TEXT_ROOM;
 // All that the program says of a register, put to the front of the output's room.
 fn put_output(register: &[u8], output: &mut [u8]) -> usize
     requires { ⌜ 50 ≤ length (now output) ⌝ }
-    ensures { λ r. ⌜ Fronted (now (output .entry)) (Output·output (now (register .entry)) (now (output .entry))) (now (output .exit)) r ⌝ }
+    ensures { λ r. ⌜ Fronted (now (output .entry)) (Programs·output (now (register .entry)) (now (output .entry))) (now (output .exit)) r ⌝ }
 {
     let mut report = [0u8; REPORT_ROOM];
     let answer = calculating::calculate(register, &mut report);

@@ -8,11 +8,10 @@ use mir.Val.{Fits}
 use lib.ListN.{length, length-append}
 use Rattle.basis.specs.Bytes.{ascii, Written}
 use Rattle.basis.proofs.Bytes.{written-then, length-written}
-use Rattle.meaning.specs.Text.{decimal, textLine, refusedLine}
+use Rattle.meaning.specs.Text.{decimal, textLine, refusedLine, acceptedLine}
 use Rattle.digits.specs.Digits.{field, Placed, Fronted}
 use Rattle.digits.proofs.Counts.{twenty-digits}
 use Rattle.digits.proofs.Fields.{length-field, fronted}
-use Rattle.saying.specs.Saying.{acceptedLine}
 
 -- the line of an acceptance: its word, its length
 module _ (n : ℕ) {xs ys : List ℕ} (p : Fits w64 n) (e : length xs ≡ 50) (w : Written xs 0 (ascii "accepted ") ys) where
@@ -20,7 +19,7 @@ module _ (n : ℕ) {xs ys : List ℕ} (p : Fits w64 n) (e : length xs ≡ 50) (w
   accepted-room = omega (arith, twenty-digits n p, length-written w)
 
   pub accepted-put : {zs : List ℕ} {r : ℕ} → Placed ys 9 (field n 10) zs r → Fronted xs (acceptedLine n) zs r
-  unfolding acceptedLine
+  unfolding acceptedLine textLine field
   accepted-put g = fronted (written-then w (g .written) refl) (omega (arith, g .ends))
 
 pub ruleset accepting = (accepted-room, accepted-put)

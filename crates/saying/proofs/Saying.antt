@@ -13,12 +13,12 @@ use Rattle.basis.specs.Answers.{firstRefusal, settled, Gives}
 use Rattle.basis.specs.Bytes.{splice, Written}
 use Rattle.basis.proofs.Answers.{each-passes, passed-append, passed-if}
 use Rattle.basis.proofs.Bytes.{splice-none}
-use Rattle.meaning.specs.Text.{refusedLine}
+use Rattle.meaning.specs.Text.{refusedLine, acceptedLine}
 use Rattle.meaning.specs.Calls.{roomTest, written, formTest, text}
+use Rattle.meaning.specs.Programs.{said, answerLine, textOutput}
 use Rattle.digits.specs.Digits.{Fronted}
 use Rattle.digits.proofs.Fields.{front-is, fronted}
 use Rattle.texts.specs.Rows.{textOf}
-use Rattle.saying.specs.Saying.{said, acceptedLine, answerLine, textOutput}
 
 room-passed : (tests : List Verdict) (made buffer : List ℕ) → firstRefusal (tests ++ (roomTest made buffer ∷ [])) ≡ Passes → length made ≤ length buffer
 room-passed tests made buffer e =

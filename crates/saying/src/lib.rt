@@ -1,9 +1,9 @@
 // Document 01, "The report program": what a program says of an answer, the text of a report or the line of an acceptance or a refusal.
 ghost use Prim.Native.Nat.{_≤_};
 ghost use lib.ListN.{length};
-ghost use Rattle.meaning.specs.Text.{refusedLine};
+ghost use Rattle.meaning.specs.Text.{refusedLine, acceptedLine};
+ghost use Rattle.meaning.specs.Programs.{answerLine, textOutput};
 ghost use Rattle.digits.specs.Digits.{Fronted};
-ghost use Rattle.saying.specs.Saying.{acceptedLine, answerLine, textOutput};
 use basis::Answer;
 use digits::put_field_at;
 

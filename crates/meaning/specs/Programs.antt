@@ -1,15 +1,13 @@
--- What a program says of an answer. Assumes nothing.
+-- Document 01, "The report program", and the programs beside it: what each says. Assumes nothing.
 use mathlib.Core.Bool.{cond}
-use mathlib.Core.List.{List, _++_}
+use mathlib.Core.List.{List}
 use Prim.Native.Nat.{ℕ}
 use lib.Dec.{eqb}
-use lib.ListN.{take}
+use lib.ListN.{take, replicate}
 use Rattle.basis.specs.declared.Answer.{Answer}
 use Rattle.basis.specs.Answers.{Outcome}
-use Rattle.basis.specs.Bytes.{ascii}
-use Rattle.meaning.specs.Text.{refusedLine}
-use Rattle.meaning.specs.Calls.{text}
-use Rattle.digits.specs.Digits.{field}
+use Rattle.meaning.specs.Text.{refusedLine, acceptedLine}
+use Rattle.meaning.specs.Calls.{calculated, text}
 
 -- what a call made, at the front of what it left
 abbrev pub front : Outcome → List ℕ
@@ -19,14 +17,14 @@ front o = take (o .answer .length) (o .left)
 abbrev pub said : Answer → List ℕ → List ℕ
 said a made = cond (eqb (a .number) 0) made (refusedLine (a .number) (a .place))
 
--- the line of an acceptance
-unfoldable pub acceptedLine : ℕ → List ℕ
-acceptedLine n = ascii "accepted " ++ field n 10
-
 -- of a call that leaves its report in a file: the length, or the refusal
 abbrev pub answerLine : Answer → List ℕ
 answerLine a = said a (acceptedLine (a .length))
 
--- the text of a report, made in the room lent
+-- the text of a report, made in the room lent, or the refusal
 unfoldable pub textOutput : List ℕ → List ℕ → List ℕ
 textOutput report room = let o = text report room in said (o .answer) (front o)
+
+-- what the report program says of a register: the text of its report, which has at most 20,536 bytes, or the refusal
+unfoldable pub output : List ℕ → List ℕ → List ℕ
+output register room = let o = calculated register (replicate 20537 0) in said (o .answer) (textOutput (front o) room)
