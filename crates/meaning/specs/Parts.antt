@@ -7,7 +7,7 @@ use lib.Dec.{eqb}
 use Rattle.basis.specs.Answers.{Shows}
 use Rattle.meaning.specs.Calls.{found, foundOfTwo}
 
--- r is the part of lent bytes that begins at an offset and has a length
+-- r is the part of lent bytes that begins at an offset and has a size
 abbrev pub IsPart : RefT (List ℕ) → ℕ → ℕ → RefT (List ℕ) → Type 0
 IsPart lent offset size r = Shows (now lent) (ptr lent .0) (ptr lent .1) offset size (now r) (ptr r)
 
