@@ -13,7 +13,23 @@ starred = record { each = refl }
 pub examples : Examples
 unfolding opened resultOf calculates twins made reportOfSources damaged named combining removing
 examples =
-    record { within = refl; once = refl; dust = refl; shown = refl; refusal = refl; refused = refl; together = refl; apart = refl; name = refl; nameless = refl; names = refl; inBoth = refl }
+    record {
+      within = refl;
+      once = refl;
+      dust = refl;
+      shown = refl;
+      refusal = refl;
+      acceptance = refl;
+      program = refl;
+      programRefuses = refl;
+      refused = refl;
+      together = refl;
+      apart = refl;
+      name = refl;
+      nameless = refl;
+      names = refl;
+      inBoth = refl;
+    }
 
 pub kinds : Kinds
 unfolding opened resultOf calculates

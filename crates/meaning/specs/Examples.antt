@@ -7,8 +7,9 @@ use Rattle.basis.specs.declared.Answer.{Answer}
 use Rattle.basis.specs.Bytes.{bytesOf, ascii, splice}
 use Rattle.basis.specs.Answers.{Outcome}
 use Rattle.meaning.specs.Register.{Source, encode}
-use Rattle.meaning.specs.Text.{refusedLine}
+use Rattle.meaning.specs.Text.{refusedLine, acceptedLine}
 use Rattle.meaning.specs.Calls.{calculated, combined, removed, checked, text, found, foundOfTwo}
+use Rattle.meaning.specs.Programs.{output}
 use Rattle.meaning.specs.Starred.{gives, calculates, line, case}
 
 -- "sources 8 and 7 in that order, equal names, each with the first case's line"
@@ -131,8 +132,13 @@ pub record Examples : Type 0 where
   -- the text that document 01 has for the twins
   pub shown : made 100 (text (reportOfSources (boiler 8 ∷ boiler 7 ∷ [])))
       ≡ ascii "2023 2 5862400000 0 0 5862400000\n7 1 2931200000 0 0 2931200000\n8 1 2931200000 0 0 2931200000\n"
-  -- the line of a refusal
+  -- the lines of a refusal and of an acceptance
   pub refusal : refusedLine 5 17 ≡ ascii "refused 5 17\n"
+  pub acceptance : acceptedLine 136 ≡ ascii "accepted 136\n"
+  -- what the report program says of the twins, and where both have one number
+  pub program : output twins (replicate 100 0)
+      ≡ ascii "2023 2 5862400000 0 0 5862400000\n7 1 2931200000 0 0 2931200000\n8 1 2931200000 0 0 2931200000\n"
+  pub programRefuses : output (splice twins 48 (8 ∷ [])) [] ≡ ascii "refused 4 1\n"
   pub refused : map (λ r. r .answer) rows ≡ map (λ r. record { number = r .number; place = r .place; length = 0 }) rows
   -- the reports of the twins combine to that of their register; one of them taken out leaves the other's
   pub together : made 136 (combined (reportOfSources (boiler 7 ∷ [])) (reportOfSources (boiler 8 ∷ []))) ≡ reportOfSources (boiler 8 ∷ boiler 7 ∷ [])
