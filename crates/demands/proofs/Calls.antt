@@ -6,7 +6,7 @@ use mathlib.Core.Path.{_≡_, refl, sym, ap, subst, _∙_}
 use Prim.Native.Nat.{ℕ, _≤_}
 use native.Mathlib.Omega.{arith}
 use lib.Dec.{eqb}
-use lib.ListN.{length, getD, take, drop, replicate, length-replicate}
+use lib.ListN.{length, getD, drop, replicate, length-replicate}
 use lib.Seq.{take-append-seam}
 use borrow.Author.Tests.{eqb-true, ne-eqb, not-false}
 use Rattle.basis.specs.declared.Answer.{Answer}
@@ -23,8 +23,8 @@ use Rattle.meaning.specs.Calls.{written, formTest, yearTest, sharedTest, countT
 use Rattle.meaning.specs.Programs.{front, said, textOutput, output}
 use Rattle.meaning.proofs.Laws.{entries-of-both}
 use Rattle.demands.specs.Fields.{sourcesIn}
-use Rattle.demands.specs.Valid.{entryNumber, noEntry, Reportable, IsReport}
-use Rattle.demands.specs.Text.{IsText, Lines, printed, RefusalLine}
+use Rattle.demands.specs.Valid.{entryNumber, noEntry, Reportable}
+use Rattle.demands.specs.Text.{IsText, printed}
 use Rattle.demands.specs.Exactly.{Row, FirstOf}
 use Rattle.demands.specs.Refusals.{NoReport, roomRow, sourceRows, calculationRows, combinationRows, removalRows, textRows}
 use Rattle.demands.specs.Demand2.{ReportOfBoth, ReportWithout}

@@ -1,14 +1,14 @@
 -- What is said of a call is said of one outcome alone. Assumes nothing.
 use mathlib.Core.Bool.{Bool, true, false, cond}
-use mathlib.Core.List.{List, [], _∷_, _++_, map, Perm, List·isSet, List·Permᴰ·trans, List·Permᴰ, Permᴰ·symm}
+use mathlib.Core.List.{List, [], _∷_, _++_, Perm, List·isSet, List·Permᴰ·trans, List·Permᴰ, Permᴰ·symm}
 use mathlib.Core.Logic.{_⊎_, inl, inr, ∥∥₁-elim}
 use mathlib.Core.Path.{_≡_, refl, sym, ap, ap₂, subst, _∙_}
-use Prim.Native.Nat.{ℕ, _+_, _-_, _^_, _<_}
+use Prim.Native.Nat.{ℕ, _+_, _^_, _<_}
 use native.Mathlib.Nat.{ℕ-set}
 use native.Mathlib.Decide.{ℕ-discrete}
 use native.Mathlib.Omega.{arith}
 use lib.Dec.{leb}
-use lib.ListN.{length, getD, take, drop}
+use lib.ListN.{length, take, drop}
 use lib.Seq.{ext-getD}
 use borrow.Author.Tests.{eq-eqb}
 use Rattle.basis.specs.declared.Answer.{Answer}
@@ -16,8 +16,8 @@ use Rattle.basis.specs.declared.Verdict.{Verdict}
 use Rattle.basis.specs.declared.Verdict.the-variants.{Passes, Refuses}
 use Rattle.basis.specs.Bytes.{Bytes}
 use Rattle.basis.specs.Lists.{Each, insertBy, sortedBy, without}
-use Rattle.basis.specs.Answers.{firstRefusal, Outcome}
-use Rattle.basis.proofs.Answers.{never, coincide, coincide-part}
+use Rattle.basis.specs.Answers.{firstRefusal}
+use Rattle.basis.proofs.Answers.{coincide, coincide-part}
 use Rattle.basis.proofs.Bools.{clash}
 use Rattle.meaning.specs.declared.RawLine.{RawLine}
 use Rattle.meaning.specs.declared.Part.{Part}
@@ -26,7 +26,7 @@ use Rattle.meaning.specs.Register.{Source}
 use Rattle.meaning.specs.Report.{Entry, reportBytes, reportYear, entriesOf, wellFormed}
 use Rattle.meaning.specs.Calls.{numbered, calculationTests}
 use Rattle.meaning.proofs.Sources.{noSource}
-use Rattle.demands.specs.Table.{CO2, CH4, N2O, adds, takes, FitAll, total, Nearest}
+use Rattle.demands.specs.Table.{CO2, CH4, N2O, FitAll, Nearest}
 use Rattle.demands.specs.Fields.{yearIn}
 use Rattle.demands.specs.Valid.{massOf, entryNumber, IsReport}
 use Rattle.demands.specs.Text.{IsText, RefusalLine, AcceptedLine, SaysAnswer}

@@ -15,7 +15,6 @@ use Rattle.basis.specs.Lists.{Each, any, without}
 use Rattle.basis.proofs.Lists.{_&_, each-map, without-none}
 use Rattle.basis.specs.Answers.{refuseIf, firstRefusal, answer}
 use Rattle.basis.proofs.Bools.{clash, not-both}
-use Rattle.basis.proofs.Answers.{each-passes}
 use Rattle.meaning.specs.Register.{mostSources}
 use Rattle.meaning.specs.Report.{Entry, reportLength, reportYear, entryCount, entriesOf, wellFormed}
 use Rattle.meaning.specs.Calls.{formTest, sharedTest, countTest, roomTest, bothEntries, numbered, absentTest, combined, checked, combinationTests, combinedReport, removalTests, removedReport}

@@ -10,7 +10,6 @@ use lib.ListN.{length, getD, List·getD-eq-default}
 use Rattle.basis.specs.Bytes.{numberOf, numberAt, Bytes}
 use Rattle.basis.specs.Lists.{sum, countUp, joined}
 use Rattle.basis.proofs.Bytes.{numberAt-parts}
-use Rattle.basis.proofs.Counting.{getD-counted}
 use Rattle.basis.proofs.Lists.{length-countUp, each-at, at-each}
 use Rattle.demands.specs.Words.{sumBelow, Words}
 

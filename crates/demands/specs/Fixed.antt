@@ -6,8 +6,6 @@ use Prim.Native.Nat.{ℕ}
 use Rattle.basis.specs.declared.Answer.{Answer}
 use Rattle.basis.specs.Bytes.{Bytes}
 use Rattle.basis.specs.Answers.{Outcome, Gives, Shows}
-use Rattle.meaning.specs.declared.Part.{Part}
-use Rattle.meaning.specs.declared.Found.{Found}
 use Rattle.demands.specs.Text.{SaysAnswer}
 use Rattle.demands.specs.Calls.{Calculates, Combines, Removes, Checks, Prints, Finds, FindsOfTwo, HandsBack, HandsBackEither, SaysRegister, SaysReport}
 
