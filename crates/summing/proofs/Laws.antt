@@ -17,8 +17,10 @@ use Rattle.meaning.specs.declared.Line.{Line}
 use Rattle.meaning.specs.declared.Decoded.the-variants.{Good}
 use Rattle.meaning.specs.Register.{lineOf}
 use Rattle.meaning.specs.Masses.{gasCount, carbonDioxide, contribution, addsTo, takesFrom}
+use Rattle.methods.specs.Ranges.{KindFits}
 use Rattle.terms.specs.declared.Term.{Term}
-use Rattle.terms.specs.Terms.{Weighs, contributed}
+use Rattle.terms.specs.Terms.{contributed, termOf, Weighs}
+use Rattle.terms.proofs.Laws.{term-weighs}
 use Rattle.exact.specs.declared.Amount.{Amount}
 use Rattle.exact.specs.Amounts.{value, scale, nothing, Added}
 use Rattle.exact.proofs.Amounts.{room-less, room-next}
@@ -49,7 +51,10 @@ pub third-gas : {gas : ℕ} → gas < gasCount → (gas ≡ 0 → ⊥) → (gas 
 third-gas l p q = omega arith
 
 -- a line by its term
-module _ (s : Sums) (l : Line) (t : Term) (factor : ℕ) (room : Roomy 1 s) (w : Weighs (λ q. contribution q (l .kind)) t) (e : factor ≡ t .factor * scale (t .gas)) where
+module _ (s : Sums) (l : Line) (t : Term) (factor : ℕ) (room : Roomy 1 s) (fits : KindFits (l .kind)) (is : t ≡ termOf (l .kind)) (e : factor ≡ t .factor * scale (t .gas)) where
+  w : Weighs (λ q. contribution q (l .kind)) t
+  w = term-weighs (l .kind) fits is
+
   product : ℕ
   product = l .quantity * t .content * t .factor
 

@@ -1,11 +1,9 @@
 // Document 01, "Methods and their lines": a kind as what it adds to or takes from a gas.
-ghost use mathlib.Core.Bool.{false};
-ghost use Prim.Native.Nat.{_*_, _≤_, _<_};
-ghost use lib.ListN.{getD};
-ghost use Rattle.meaning.specs.Methods.{whole, largestContent};
-ghost use Rattle.meaning.specs.Masses.{gasCount, carbonDioxide, co2OfCarbon, mostFactors, contribution};
+ghost use mathlib.Core.Path.{_≡_};
+ghost use Prim.Native.Nat.{_≤_};
+ghost use Rattle.meaning.specs.Methods.{whole};
 ghost use Rattle.methods.specs.Ranges.{KindFits, carbonFactor};
-ghost use Rattle.terms.specs.Terms.{Weighs, contributed};
+ghost use Rattle.terms.specs.Terms.{gasTerm, co2Term, carbonTerm, termOf};
 use meaning::Kind;
 use methods::WHOLE;
 
@@ -29,8 +27,7 @@ const NITROUS_OXIDE: usize = 2;
 
 // A gas that is added: a content times a factor.
 fn gas_term(gas: usize, content: u64, factor: u64) -> Term
-    requires { ⌜ (gas < gasCount) × (content ≤ largestContent) × (factor ≤ getD mostFactors gas 0) ⌝ }
-    ensures { λ r. ⌜ Weighs (λ q. contributed false gas (q * content * factor)) r ⌝ }
+    ensures { λ r. ⌜ r ≡ gasTerm gas content factor ⌝ }
 {
     Term {
         gas,
@@ -42,8 +39,8 @@ fn gas_term(gas: usize, content: u64, factor: u64) -> Term
 
 // CO2 of a content, of the share of it that counts, and of the factor of CO2.
 fn co2_term(takes: bool, content: u64, share: u64, factor: u64) -> Term
-    requires { ⌜ (content ≤ largestContent) × (share ≤ whole) × (factor ≤ carbonFactor) ⌝ }
-    ensures { λ r. ⌜ Weighs (λ q. contributed takes carbonDioxide (q * content * share * factor)) r ⌝ }
+    requires { ⌜ (share ≤ whole) × (factor ≤ carbonFactor) ⌝ }
+    ensures { λ r. ⌜ r ≡ co2Term takes content share factor ⌝ }
 {
     Term {
         gas: CARBON_DIOXIDE,
@@ -55,8 +52,8 @@ fn co2_term(takes: bool, content: u64, share: u64, factor: u64) -> Term
 
 // Carbon becomes CO2 here, and nowhere else.
 fn carbon_term(takes: bool, carbon: u64, share: u64) -> Term
-    requires { ⌜ (carbon ≤ largestContent) × (share ≤ whole) ⌝ }
-    ensures { λ r. ⌜ Weighs (λ q. contributed takes carbonDioxide (co2OfCarbon (q * carbon * share))) r ⌝ }
+    requires { ⌜ share ≤ whole ⌝ }
+    ensures { λ r. ⌜ r ≡ carbonTerm takes carbon share ⌝ }
 {
     co2_term(takes, carbon, share, CO2_OF_CARBON)
 }
@@ -64,7 +61,7 @@ fn carbon_term(takes: bool, carbon: u64, share: u64) -> Term
 // What a line of a kind adds to or takes from the sum of its gas, for each unit of its quantity.
 pub fn term_of(kind: Kind) -> Term
     requires { ⌜ KindFits kind ⌝ }
-    ensures { λ r. ⌜ Weighs (λ q. contribution q kind) r ⌝ }
+    ensures { λ r. ⌜ r ≡ termOf kind ⌝ }
 {
     match kind {
         Kind::Fuel { carbon, oxidised } => carbon_term(false, carbon, oxidised),

@@ -1,5 +1,4 @@
 use borrow.Author.Needs.{needs}
-use native.Mathlib.Nat.{mul-one}
 use Rattle.terms.proofs.term_of.Statement.{statement}
 use Rattle.terms.proofs.term_of.Tie as tie
 
@@ -50,4 +49,4 @@ term-of-spec =
     (λ c. rw (c .before .before .kind11 .given .1) (c .co2-term .ensures))
     (λ c. rw (c .before .before .kind12 .given .1) (c .co2-term2 .ensures))
     (λ c. rw (c .before .before .kind13 .given .1) (c .carbon-term10 .ensures))
-    (λ c. rw (c .before .before .kind14 .given .1) (simp mul-one at (c .gas-term2 .ensures))))
+    (λ c. rw (c .before .before .kind14 .given .1) (c .gas-term2 .ensures)))
