@@ -1,10 +1,10 @@
 -- A call refuses exactly by the first of its tests that refuses; what a promise permits is one. Assumes nothing.
 use mathlib.Core.Bool.{Bool, true, false}
-use mathlib.Core.List.{List, [], _∷_, _++_}
+use mathlib.Core.List.{List, [], _∷_, _++_, map}
 use mathlib.Core.Logic.{_↔_}
 use mathlib.Core.Path.{_≡_, refl, sym, _∙_}
-use Prim.Native.Nat.{ℕ, zero, suc, _<_, zero-le, suc-le-suc}
-use native.Mathlib.Nat.{le-of-suc-le-suc, not-suc-le-zero}
+use Prim.Native.Nat.{ℕ, zero, suc, _+_, _<_, zero-le, suc-le-suc}
+use native.Mathlib.Nat.{zero-add, le-of-suc-le-suc, not-suc-le-zero}
 use native.Mathlib.Omega.{arith}
 use lib.Dec.{ltb}
 use lib.ListN.{length, getD}
@@ -12,8 +12,8 @@ use borrow.Author.Tests.{ltb-true, ltb-false, lt-ltb, le-ltb}
 use Rattle.basis.specs.declared.Answer.{Answer}
 use Rattle.basis.specs.declared.Verdict.{Verdict}
 use Rattle.basis.specs.declared.Verdict.the-variants.{Passes, Refuses}
-use Rattle.basis.specs.First.{first, NoneBelow}
-use Rattle.basis.specs.Lists.{Each}
+use Rattle.basis.specs.First.{scan, first, NoneBelow}
+use Rattle.basis.specs.Lists.{Each, countUp}
 use Rattle.basis.specs.Answers.{refuseIf, refuseAtFirst, firstRefusal, passes, Outcome, Gives, Shows}
 use Rattle.basis.proofs.Bools.{clash}
 use Rattle.basis.proofs.First.{first-≤, first-hits, first-misses, first-is, first-end}
@@ -139,6 +139,25 @@ module _ (wrong : ℕ → Bool) (count : ℕ) where
 pub passed-at-all : (number : ℕ) (wrong : ℕ → Bool) (count : ℕ) → (refuseAtFirst number wrong count ≡ Passes) ↔ NoneBelow wrong count
 unfolding refuseAtFirst
 passed-at-all number wrong count = passed-at-first wrong count number (first wrong count)
+
+-- it is the first refusal of a test of each index in turn
+refuse-from : (number : ℕ) (wrong : ℕ → Bool) (k i : ℕ)
+    → refuseIf (ltb (scan wrong i k) (i + k)) number (scan wrong i k) ≡ firstRefusal (map (λ j. refuseIf (wrong j) number j) (countUp i k))
+unfolding scan firstRefusal countUp
+refuse-from number wrong zero i = rw (le-ltb i (i + 0) (omega arith))
+refuse-from number wrong (suc k) i =
+    let e : i + 1 + k ≡ i + suc k = omega arith in
+    by (wrong i) refl (rw e at (refuse-from number wrong k (i + 1)))
+  where
+    by : (b : Bool) → wrong i ≡ b
+        → refuseIf (ltb (scan wrong (i + 1) k) (i + suc k)) number (scan wrong (i + 1) k) ≡ firstRefusal (map (λ j. refuseIf (wrong j) number j) (countUp (i + 1) k))
+        → refuseIf (ltb (scan wrong i (suc k)) (i + suc k)) number (scan wrong i (suc k)) ≡ firstRefusal (map (λ j. refuseIf (wrong j) number j) (countUp i (suc k)))
+    by true h later = rw (h, lt-ltb i (i + suc k) (omega arith))
+    by false h later = rw h later
+
+pub refuse-each : (number : ℕ) (wrong : ℕ → Bool) (count : ℕ) → refuseAtFirst number wrong count ≡ firstRefusal (map (λ j. refuseIf (wrong j) number j) (countUp 0 count))
+unfolding refuseAtFirst first
+refuse-each number wrong count = rw (zero-add count) at (refuse-from number wrong count 0)
 
 -- two outcomes that a promise permits are one
 pub coincide : {o : Outcome} {a a′ : Answer} {bs bs′ : List ℕ} → Gives o a bs → Gives o a′ bs′ → (a ≡ a′) × (bs ≡ bs′)

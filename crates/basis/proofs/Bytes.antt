@@ -5,7 +5,7 @@ use Prim.Native.Nat.{ℕ, zero, suc, _+_, _*_, _/_, _%_, _^_, _≤_, _<_}
 use native.Mathlib.Nat.{add-assoc, add-zero, zero-add, suc-add, pow-suc, not-suc-le-zero, le-of-suc-le-suc}
 use native.Mathlib.Omega.{arith}
 use lib.ListN.{length, take, drop, getD, length-append, length-take, length-drop, take-append-drop}
-use lib.Seq.{take-take, take-nil, take-append-le, drop-append-le, take-at, drop-at, drop-drop, length-take-le}
+use lib.Seq.{take-nil, take-append-le, drop-append-le, take-at, drop-at, drop-drop, length-take-le}
 use Rattle.basis.specs.Bytes.{bytesOf, numberOf, numberAt, packed, Bytes, splice, Written}
 use Rattle.basis.specs.Lists.{sum}
 
@@ -93,23 +93,8 @@ written-then {xs} {ys} {us = us} {at = at} w v e =
       is = v .is ∙ rw (w .is, e) (splice-splice xs at ys us f);
     }
 
--- a part that begins at a place is the end of what goes up to its own end
-part-of-front : (p k : ℕ) (l : List ℕ) → take k (drop p l) ≡ drop p (take (p + k) l)
-part-of-front zero k l = rw zero-add
-part-of-front (suc p) k [] = rw (suc-add, take-nil {A = ℕ} k)
-part-of-front (suc p) k (x ∷ l) = rw suc-add (part-of-front p k l)
-
--- reading before and inside what was written
+-- reading inside what was written
 module _ {xs ys zs : List ℕ} {at : ℕ} (w : Written xs at ys zs) where
-  front-kept : take at zs ≡ take at xs
-  unfolding splice
-  front-kept =
-      let h : length (take at xs) ≡ at = length-take-le at xs (omega (arith, w .fits)) in
-      rw (w .is, append-assoc) (take-at (take at xs) (ys ++ drop (at + length ys) xs) at h)
-
-  pub read-before : (p k : ℕ) → p + k ≤ at → take k (drop p zs) ≡ take k (drop p xs)
-  read-before p k h = rw (part-of-front p k zs, part-of-front p k xs, ← take-take (p + k) at zs, ← take-take (p + k) at xs, front-kept)
-
   pub read-inside : (p k : ℕ) → p + k ≤ length ys → take k (drop (at + p) zs) ≡ take k (drop p ys)
   unfolding splice
   read-inside p k h =

@@ -12,6 +12,7 @@ use Rattle.basis.specs.declared.Verdict.{Verdict}
 use Rattle.basis.specs.declared.Verdict.the-variants.{Passes, Refuses}
 use Rattle.basis.specs.Answers.{firstRefusal, Gives}
 use Rattle.basis.proofs.Answers.{passed-then, refused-then, each-passes}
+use Rattle.basis.proofs.Bytes.{length-written}
 use Rattle.meaning.specs.Masses.{equivalent, limit}
 use Rattle.meaning.specs.Register.{sourceCount, mostSources, sourcesAt, sourceAt, sourcesOf, registerTests}
 use Rattle.meaning.specs.Report.{entryOf, figureCount}
@@ -50,7 +51,7 @@ keyed {b} {keys} t e l =
     }
 
 -- a refusal of tests 5 to 7
-pub source-refused : {b kept report : List ℕ} {v : Verdict} {n p : ℕ} → Passed b → Judged b v kept → v ≡ Refuses n p
+pub source-refused : {b kept₀ kept report : List ℕ} {v : Verdict} {n p : ℕ} → Passed b → Judged b kept₀ v kept → v ≡ Refuses n p
     → Gives (calculated b report) (record { number = n; place = p; length = 0 }) report
 unfolding calculated
 source-refused {b} {report = report} h j e =
@@ -58,15 +59,15 @@ source-refused {b} {report = report} h j e =
     (passed-then (registerTests b) (lineTest (sourcesOf b) ∷ massTest (sourcesOf b) ∷ []) (h .tests) ∙ sym (j .verdict) ∙ e)
 
 -- where nothing refuses, each equivalent keeps the limit
-each-kept : {b kept : List ℕ} {v : Verdict} → Judged b v kept → v ≡ Passes → (i : ℕ) → i < sourceCount b → equivalent (entryOf (sourceAt b i) .masses) ≤ limit
+each-kept : {b kept₀ kept : List ℕ} {v : Verdict} → Judged b kept₀ v kept → v ≡ Passes → (i : ℕ) → i < sourceCount b → equivalent (entryOf (sourceAt b i) .masses) ≤ limit
 unfolding entryOf
 each-kept {b} j e i l =
     let m = each-passes (lineTest (sourcesOf b) ∷ massTest (sourcesOf b) ∷ []) (sym (j .verdict) ∙ e) .1 .0 in
     kept-within (sourceAt b i) (none-faulty b m i l)
 
 -- what is written where all tests pass
-pub all-passed : {b kept : List ℕ} {v : Verdict} → Passed b → Judged b v kept → v ≡ Passes → firstRefusal (calculationTests b) ≡ Passes
+pub all-passed : {b kept₀ kept : List ℕ} {v : Verdict} → Passed b → Judged b kept₀ v kept → v ≡ Passes → firstRefusal (calculationTests b) ≡ Passes
 all-passed {b} h j e = passed-then (registerTests b) (lineTest (sourcesOf b) ∷ massTest (sourcesOf b) ∷ []) (h .tests) ∙ sym (j .verdict) ∙ e
 
-pub ready : {b keys kept₀ kept : List ℕ} {v : Verdict} → Keyed b keys kept₀ → length kept ≡ length kept₀ → Judged b v kept → v ≡ Passes → Ready b keys kept
-ready h n j e = record { passes = h .passed .tests; order = h .order; long = omega (arith, h .room); stored = j .stored e; kept = each-kept j e }
+pub ready : {b keys kept₀ kept : List ℕ} {v : Verdict} → Keyed b keys kept₀ → Judged b kept₀ v kept → v ≡ Passes → Ready b keys kept
+ready h j e = record { passes = h .passed .tests; order = h .order; long = omega (arith, h .room, length-written (j .left)); stored = j .stored e; kept = each-kept j e }

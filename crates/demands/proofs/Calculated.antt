@@ -21,9 +21,10 @@ use Rattle.meaning.specs.Methods.{within, listed, isBad}
 use Rattle.meaning.specs.Masses.{masses}
 use Rattle.meaning.specs.Register.{Source, yearOf, sourceCount, mostSources, sourcesAt, sourceLength, sourceEntry, sourceAt, sourcesOf, unsound, decodedLines, registerTests}
 use Rattle.meaning.specs.Report.{entryOf, inOrder, reportBytes, reportLength}
-use Rattle.meaning.specs.Calls.{roomTest, badLine, lineTest, massFault, faultAt, massTest, entriesFor, calculated, calculationTests, calculatedReport}
+use Rattle.meaning.specs.Calls.{roomTest, lineTest, massFault, faultAt, massTest, entriesFor, calculated, calculationTests, calculatedReport}
 use Rattle.meaning.proofs.Laws.{one-entry-each}
 use Rattle.meaning.proofs.Lengths.{source-massed}
+use Rattle.meaning.proofs.Lines.{badLine, line-test}
 use Rattle.meaning.proofs.Sources.{noSource, sourceNumber, length-sources, source-at, sound-parts, kept-within}
 use Rattle.demands.specs.Valid.{Entered, Distinct, entryNumber, Reportable}
 use Rattle.demands.specs.Table.{Among}
@@ -120,16 +121,15 @@ joined-any test f [] h = refl
 joined-any test f (x ∷ xs) h = append-any test (f x) (joined (map f xs)) (h .0) (joined-any test f xs (h .1))
 
 pub lines-good : (ss : List Source) → lineTest ss ≡ Passes → Each (λ s. any isBad (decodedLines s) ≡ false) ss
-unfolding lineTest badLine
 lines-good ss e =
     let ls = joined (map decodedLines ss) in
-    any-joined isBad decodedLines ss (not-both (any isBad ls) (λ t. let r = any-some isBad Bad ls t in clash (r .2) (passed-at-all 5 (badLine ls) (length ls) .0 e (r .0) (r .1))))
+    any-joined isBad decodedLines ss (not-both (any isBad ls) (λ t. let r = any-some isBad Bad ls t in clash (r .2) (passed-at-all 5 (badLine ls) (length ls) .0 (sym (line-test ss) ∙ e) (r .0) (r .1))))
 
 pub good-lines : (ss : List Source) → Each (λ s. any isBad (decodedLines s) ≡ false) ss → lineTest ss ≡ Passes
-unfolding lineTest badLine
 good-lines ss h =
     let ls = joined (map decodedLines ss) in
-    passed-at-all 5 (badLine ls) (length ls) .1
+    line-test ss
+    ∙ passed-at-all 5 (badLine ls) (length ls) .1
     (λ i l. not-both (badLine ls i) (λ t. clash (some-any isBad Bad ls i l t) (joined-any isBad decodedLines ss h)))
 
 fault-zero : (ss : List Source) (i : ℕ) → massFault (getD ss i noSource) ≡ getD (map massFault ss) i 0

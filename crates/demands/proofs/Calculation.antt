@@ -15,7 +15,7 @@ use Rattle.meaning.specs.declared.Decoded.the-variants.{Good, Bad}
 use Rattle.meaning.specs.Methods.{decoded, isBad}
 use Rattle.meaning.specs.Masses.{added, taken, belowZero, rounded, mass, masses, weighed, equivalent, limit}
 use Rattle.meaning.specs.Register.{sourceCount, lineCount, nameBytes, sourceAt, sourcesOf, lineStart, nameStart, decodedLines}
-use Rattle.meaning.specs.Calls.{badLine, lineTest, faultOf, massFault, faultAt, massTest}
+use Rattle.meaning.specs.Calls.{lineTest, faultOf, massFault, faultAt, massTest}
 use Rattle.meaning.proofs.Sources.{Placed as Standing, noSource, length-sources, source-at}
 use Rattle.demands.specs.Valid.{LaidRight}
 use Rattle.demands.specs.Exactly.{at, atSmallest, withNumber}
@@ -24,7 +24,7 @@ use Rattle.demands.specs.Table.{FitAll}
 use Rattle.demands.specs.Fields.{method, parameter, lineAt as line, linesOf}
 use Rattle.demands.proofs.Table.{bad-exactly}
 use Rattle.demands.proofs.Sums.{rows-found, below-then, above-then, then-below, then-above}
-use Rattle.meaning.proofs.Lines.{Following, allLines, length-lines, line-is, line-of}
+use Rattle.meaning.proofs.Lines.{badLine, line-test, Following, allLines, length-lines, line-is, line-of}
 use Rattle.demands.proofs.Figures.{lines-before, names-before, placed-standing}
 use Rattle.demands.proofs.Exactly.{Decides, decide-first}
 use Rattle.demands.proofs.RegisterTests.{decide-at-first}
@@ -47,9 +47,8 @@ module _ (b : List ℕ) (l : LaidRight b) where
   bad-is Bad e = refl
 
   pub line-decides : Decides (lineTest (sourcesOf b)) (atSmallest (lineCount b) (withNumber 5 (BadLine b)))
-  unfolding lineTest badLine
   line-decides =
-      rw (length-lines b following)
+      rw (line-test (sourcesOf b), length-lines b following)
       (decide-at-first 5 (badLine (allLines b)) (lineCount b) (BadLine b)
       (λ j m e.
       let r = line-of b following j m in

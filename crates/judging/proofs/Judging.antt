@@ -4,8 +4,6 @@ use mathlib.Core.List.{List, map, map-map}
 use mathlib.Core.Path.{_≡_, sym, ap, _∙_}
 use Prim.Native.Nat.{ℕ, _+_, _*_, _-_, _<_}
 use native.Mathlib.Omega.{arith}
-use borrow.Author.Tests.{eqb-true, eqb-false}
-use lib.Dec.{eqb}
 use mir.Syntax.{w64}
 use mir.Val.{Fits}
 use Rattle.basis.specs.Lists.{countUp}
@@ -14,10 +12,9 @@ use Rattle.fields.specs.Fields.{Field}
 use Rattle.fields.proofs.Laws.{field-behind}
 use Rattle.meaning.specs.Methods.{listed, decoded}
 use Rattle.meaning.specs.Register.{sourcesAt, sourceLength, sourceCount, lineAt, sourceEntry, methodIn, parameterIn, firstLineIn, lineCountIn, sourceAt, unsound, misplaced, wrongSource, decodedLines}
-use Rattle.meaning.specs.Report.{entryOf, figures}
 use Rattle.meaning.proofs.Sources.{placed, sound-parts}
 use Rattle.masses.specs.declared.Source.{Source}
-use Rattle.summing.specs.Lines.{readAt, readFrom, Lines}
+use Rattle.summing.specs.Lines.{readAt, readFrom, verdictFrom, Lines}
 use Rattle.masses.specs.Judged.{Comes}
 use Rattle.meaning.proofs.Registers.{right-register}
 use Rattle.judging.specs.Sources.{Passed, Begins, ComesAt}
@@ -78,18 +75,14 @@ module _ {b : List ℕ} {base i method parameter count first : ℕ} (h : Passed 
       ap (λ (k : ℕ). map (readAt b m p) (countUp firstLine k)) e ∙ sym (map-map (decoded m p) (lineAt b) (countUp firstLine lines))
 
   pub comes-at : {r : Source} → Comes b method parameter first (first + count) r
-      → ComesAt b i (record { good = eqb (r .at) (first + count); line = r .at; fault = r .fault; figures = r .figures })
-  unfolding entryOf figures
+      → ComesAt b i (record { verdict = r .verdict; next = first + count; fault = r .fault; figures = r .figures })
   comes-at {r} c =
-      let q : first + count ≡ firstLine + lines = omega (arith, s .begins .from, s .lines) in
+      let q : firstLine + lines - firstLine ≡ lines = omega arith in
       let d : Comes b m p firstLine (firstLine + lines) r = rw (s .ofMethod, s .ofParameter, s .begins .from, s .lines) at c in
       record {
         size = d .size;
-        low = d .low;
-        high = d .high;
-        before = d .good;
-        all = λ e. eqb-true (r .at) (first + count) e ∙ q;
-        bad = λ e. let n = eqb-false (r .at) (first + count) e in let l : r .at < firstLine + lines = omega (arith, d .high, q) in (l, d .bad l);
-        fault = λ e. d .fault (eqb-true (r .at) (first + count) e ∙ q) ∙ rw lines-read;
-        kept = λ e z. d .figures (eqb-true (r .at) (first + count) e ∙ q) z ∙ rw lines-read;
+        verdict = d .verdict ∙ ap (verdictFrom b m p firstLine) q;
+        next = omega (arith, s .begins .from, s .lines);
+        fault = d .fault ∙ rw lines-read;
+        figures = d .figures ∙ rw lines-read;
       }

@@ -1,35 +1,43 @@
 -- One pass over the sources of a register that has passed: tests 5 to 7, and the figures kept. Assumes nothing.
-use mathlib.Core.Bool.{true, false}
-use mathlib.Core.List.{List, [], _∷_, map}
+use mathlib.Core.Bool.{false}
+use mathlib.Core.List.{List, [], _∷_, _++_, map, map-id, append-nil}
 use mathlib.Core.Path.{_≡_, refl, sym, ap, _∙_}
-use Prim.Native.Nat.{ℕ, _+_, _*_, _≤_, _<_}
+use Prim.Native.Nat.{ℕ, zero, suc, _+_, _*_, _-_, _≤_, _<_}
 use native.Mathlib.Decide.{decLt}
-use native.Mathlib.Nat.{add-zero}
+use native.Mathlib.Nat.{zero-add, sub-zero}
 use native.Mathlib.Numerals.{add-one}
 use native.Mathlib.Omega.{arith}
-use borrow.Author.Tests.{eqb-true, not-false, lt-ltb}
+use borrow.Author.Tests.{eqb-true, not-false}
 use lib.Dec.{eqb}
-use lib.ListN.{length, getD, drop, length-map, List·getD-map, drop-of-length-le}
-use lib.Seq.{drop-cons, take-all}
+use lib.ListN.{length, getD, take, drop, length-map, List·getD-map, drop-of-length-le}
+use lib.Seq.{drop-cons, take-at}
 use Rattle.basis.specs.Bytes.{Written}
 use Rattle.basis.specs.declared.Verdict.{Verdict}
 use Rattle.basis.specs.declared.Verdict.the-variants.{Passes, Refuses}
-use Rattle.basis.specs.Answers.{firstRefusal, refuseAtFirst}
-use Rattle.basis.proofs.Answers.{never, passed-at-all, passed-at-first}
+use Rattle.basis.specs.Lists.{Each, countUp, joined}
+use Rattle.basis.specs.First.{first, NoneBelow}
+use Rattle.basis.specs.Answers.{firstRefusal}
+use Rattle.basis.proofs.Answers.{never, passed-at-first, passed-then, refused-then}
 use Rattle.basis.proofs.Bools.{or-false}
-use Rattle.basis.proofs.Bytes.{read-before, read-inside, length-written}
-use Rattle.basis.proofs.Counting.{getD-either}
-use Rattle.basis.proofs.First.{first-is}
-use Rattle.meaning.specs.Methods.{isBad}
-use Rattle.meaning.specs.Register.{linesAt, sourceCount, sourceEntry, firstLineIn, lineCountIn, sourceAt, sourcesOf, lineStart, unsound, misplaced, wrongSource}
+use Rattle.basis.proofs.ByIndex.{same-by-index, joined-last}
+use Rattle.basis.proofs.Bytes.{splice-none, read-inside, length-written, written-then}
+use Rattle.basis.proofs.Counting.{getD-either, at-counted, counted-append}
+use Rattle.basis.proofs.First.{first-is, first-end}
+use Rattle.basis.proofs.Lists.{length-countUp, at-each}
+use Rattle.basis.proofs.Rows.{row-at, length-rows}
+use Rattle.meaning.specs.declared.Decoded.{Decoded}
+use Rattle.meaning.specs.declared.Decoded.the-variants.{Bad}
+use Rattle.meaning.specs.Methods.{refusalOf}
+use Rattle.meaning.specs.Masses.{masses}
+use Rattle.meaning.specs.Register.{Source, linesAt, sourceCount, lineCount, sourceEntry, firstLineIn, lineCountIn, sourceAt, sourcesOf, lineStart, unsound, misplaced, wrongSource, decodedLines}
 use Rattle.meaning.specs.Report.{entryOf, figures, figureCount}
-use Rattle.meaning.specs.Calls.{badLine, lineTest, massFault, faultAt, massTest}
-use Rattle.meaning.proofs.Lengths.{source-massed}
-use Rattle.meaning.proofs.Reports.{length-figures}
-use Rattle.meaning.proofs.Lines.{Following, allLines, next-line, length-lines, line-is}
+use Rattle.meaning.specs.Calls.{lineTest, massFault, faultAt, massTest}
+use Rattle.meaning.proofs.Lines.{Following, readAs, allLines, next-line, length-lines, line-is}
 use Rattle.meaning.proofs.Sources.{Placed, placed, noSource, length-sources, source-at}
 use Rattle.meaning.proofs.Registers.{right-register}
-use Rattle.judging.specs.Sources.{Passed, Begins, badFor, ComesAt, waited, Stored, Judged}
+use Rattle.summing.specs.Lines.{verdictFrom}
+use Rattle.masses.specs.Judged.{figuresBeside}
+use Rattle.judging.specs.Sources.{Passed, Begins, verdictAt, refusedAt, ComesAt, waited, keptOf, keptTo, Judged}
 use Rattle.judging.specs.declared.Judgement.{Judgement}
 use Rattle.judging.proofs.Waiting.{waitedFrom, mass-test}
 
@@ -50,9 +58,38 @@ begins-first b = refl
 pub begins-at : {b : List ℕ} {n base i first : ℕ} → Passed b → n ≡ sourceCount b → base ≡ linesAt (sourceCount b) → i < n → first ≡ lineStart b i → Begins b base i first
 begins-at {b} {i = i} h e d l f = record { stand = d; from = f ∙ sym (following b h .each i (omega arith)) }
 
--- the next source begins where the lines of this one end, which are good
-pub begins-next : {b : List ℕ} {i : ℕ} {r : Judgement} → Passed b → i < sourceCount b → ComesAt b i r → r .good ≡ true → r .line ≡ lineStart b (i + 1)
-begins-next {b} {i} h l c e = omega (arith, c .all e, next-line b (following b h) i l, following b h .each i l)
+-- the next source begins where the lines of this one end
+pub begins-next : {b : List ℕ} {i : ℕ} {r : Judgement} → Passed b → i < sourceCount b → ComesAt b i r → r .next ≡ lineStart b (i + 1)
+begins-next {b} {i} h l c = omega (arith, c .next, next-line b (following b h) i l, following b h .each i l)
+
+-- what each line of the table is answered, from one on; what those of source i are
+unfoldable pub answersFrom : List ℕ → ℕ → List Verdict
+answersFrom b j = map (λ k. refusalOf (getD (allLines b) k Bad) k) (countUp j (lineCount b - j))
+
+abbrev answersOf : List ℕ → ℕ → List Verdict
+answersOf b i = map (λ k. refusalOf (readAs b i k) k) (countUp (firstLineIn (sourceEntry b i)) (lineCountIn (sourceEntry b i)))
+
+answers-all : (b : List ℕ) → Passed b → firstRefusal (answersFrom b 0) ≡ lineTest (sourcesOf b)
+unfolding answersFrom lineTest
+answers-all b h = rw (sub-zero, length-lines b (following b h))
+
+answers-none : (b : List ℕ) → firstRefusal (answersFrom b (lineCount b)) ≡ Passes
+unfolding answersFrom countUp firstRefusal
+answers-none b = let z : lineCount b - lineCount b ≡ 0 = omega arith in rw z
+
+answers-next : (b : List ℕ) → Passed b → (i : ℕ) → i < sourceCount b → answersFrom b (lineStart b i) ≡ answersOf b i ++ answersFrom b (lineStart b (i + 1))
+unfolding answersFrom
+answers-next b h i l =
+    let f = following b h in
+    let e = f .each i l in
+    let n = next-line b f i l in
+    let c = lineCountIn (sourceEntry b i) in
+    let left = lineCount b - lineStart b (i + 1) in
+    let answer : ℕ → Verdict = λ k. refusalOf (getD (allLines b) k Bad) k in
+    let q : lineCount b - lineStart b i ≡ c + left = omega (arith, stands b h i l .lines) in
+    let own : map answer (countUp (lineStart b i) c) ≡ answersOf b i =
+    rw (← e) (same-by-index answer _ c (firstLineIn (sourceEntry b i)) (λ k p m. ap (λ (d : Decoded). refusalOf d k) (line-is b f i k l p m))) in
+    rw q (counted-append answer (lineStart b i) c left ∙ rw (← n, own))
 
 -- the faults of all sources
 unfoldable pub faults : List ℕ → List ℕ
@@ -79,90 +116,117 @@ none-faulty b e i l =
     let none = passed-at-first (faultAt (faults b)) (length (faults b)) _ _ .0 e in
     sym (fault-at b i l) ∙ eqb-true (getD (faults b) i 0) 0 (not-false (eqb (getD (faults b) i 0) 0) (none i (omega (arith, length-faults b))))
 
--- the sources before source i: their lines are good, the first fault among them waits, and their figures are kept
+-- figures are as many of every source
+length-kept : (s : Source) → length (keptOf s) ≡ figureCount
+unfolding keptOf masses countUp
+length-kept s = by (massFault s)
+  where
+    by : (fault : ℕ) → length (figuresBeside fault (masses (decodedLines s))) ≡ figureCount
+    by zero = refl
+    by (suc fault) = refl
+
+any-of : (ks : List ℕ) → Each (λ _. Unit {0}) ks
+any-of ks = at-each (λ _. Unit {0}) ks 0 (λ i l. tt)
+
+length-keptTo : (b : List ℕ) (n : ℕ) → length (keptTo b n) ≡ figureCount * n
+unfolding keptTo
+length-keptTo b n =
+    length-rows (λ k. keptOf (sourceAt b k)) (λ _. 0) figureCount (λ _. Unit {0}) (λ k _. length-kept (sourceAt b k)) (countUp 0 n) (any-of (countUp 0 n)) ∙ rw (length-countUp 0 n)
+
+kept-next : (b : List ℕ) (i : ℕ) → keptTo b (i + 1) ≡ keptTo b i ++ keptOf (sourceAt b i)
+unfolding keptTo
+kept-next b i = rw (add-one i) (joined-last (λ k. keptOf (sourceAt b k)) 0 i ∙ rw (zero-add i))
+
+-- what is kept of a source stands at its place, and without a fault is its entry's figures
+kept-at : (b : List ℕ) (n i : ℕ) → i < n → take figureCount (drop (figureCount * i) (keptTo b n)) ≡ keptOf (sourceAt b i)
+unfolding keptTo
+kept-at b n i l =
+    let ks = countUp 0 n in
+    let m : i < length ks = rw (length-countUp 0 n) l in
+    let g : getD ks i 0 ≡ i = ap (λ (xs : List ℕ). getD xs i 0) (sym (map-id ks)) ∙ at-counted (λ k. k) 0 n i l in
+    let r = row-at (λ k. keptOf (sourceAt b k)) (λ _. 0) figureCount (λ _. Unit {0}) (λ k _. length-kept (sourceAt b k)) 0 [] ks i m (any-of ks) in
+    rw (rw (append-nil (joined (map (λ k. keptOf (sourceAt b k)) ks))) at r) (take-at (keptOf (sourceAt b (getD ks i 0))) _ figureCount (length-kept (sourceAt b (getD ks i 0))) ∙ rw g)
+
+kept-figures : (s : Source) → massFault s ≡ 0 → keptOf s ≡ figures (entryOf s)
+unfolding keptOf figures entryOf
+kept-figures s z = rw z
+
+-- the sources before source i: their lines pass, the lines left are answered as all are, the first fault waits, and their figures are kept
 pub record Passing (b kept₀ : List ℕ) (w : Verdict) (kept : List ℕ) (i : ℕ) : Type 0 where
   pub low : i ≤ sourceCount b
   pub size : length kept ≡ length kept₀
-  pub good : (k : ℕ) → k < lineStart b i → badLine (allLines b) k ≡ false
+  pub good : NoneBelow (refusedAt b) i
+  pub lines : firstRefusal (answersFrom b (lineStart b i)) ≡ lineTest (sourcesOf b)
   pub rest : waitedFrom i (drop i (faults b)) w ≡ massTest (sourcesOf b)
-  pub stored : (k : ℕ) → k < i → massFault (sourceAt b k) ≡ 0 → Stored b kept k
+  pub stored : Written kept₀ 0 (keptTo b i) kept
 
-pub passing-none : (b kept : List ℕ) → Passing b kept Passes kept 0
-unfolding lineStart faults
-passing-none b kept =
-    record { low = omega arith; size = refl; good = λ k l. absurd (omega arith); rest = sym (mass-test (sourcesOf b)); stored = λ k l. absurd (omega arith) }
+pub passing-none : (b kept : List ℕ) → Passed b → Passing b kept Passes kept 0
+unfolding lineStart faults keptTo countUp joined
+passing-none b kept h =
+    record {
+      low = omega arith;
+      size = refl;
+      good = λ k l. absurd (omega arith);
+      lines = answers-all b h;
+      rest = sym (mass-test (sourcesOf b));
+      stored = record { fits = omega arith; is = sym (splice-none kept 0) };
+    }
 
 only : (v : Verdict) → firstRefusal (v ∷ []) ≡ v
 unfolding firstRefusal
 only Passes = refl
 only (Refuses n p) = refl
 
--- a line of source i is the line of the table at its index
-bad-at : (b : List ℕ) (h : Passed b) (i k : ℕ) → i < sourceCount b → firstLineIn (sourceEntry b i) ≤ k → k < firstLineIn (sourceEntry b i) + lineCountIn (sourceEntry b i)
-    → badLine (allLines b) k ≡ badFor b i k
-unfolding badLine
-bad-at b h i k l p q = ap isBad (line-is b (following b h) i k l p q)
-
 module _ {b kept₀ kept : List ℕ} {w : Verdict} {i : ℕ} {r : Judgement} (h : Passed b) (s : Passing b kept₀ w kept i) (l : i < sourceCount b) (c : ComesAt b i r) where
-  starts : firstLineIn (sourceEntry b i) ≡ lineStart b i
-  starts = following b h .each i l
+  -- the lines of the source, and then those behind them
+  lines-now : lineTest (sourcesOf b) ≡ firstRefusal (answersOf b i ++ answersFrom b (lineStart b (i + 1)))
+  lines-now = sym (s .lines) ∙ ap firstRefusal (answers-next b h i l)
 
-  next : lineStart b (i + 1) ≡ lineStart b i + lineCountIn (sourceEntry b i)
-  next = next-line b (following b h) i l
+  pub passing-bad : {number place : ℕ} → r .verdict ≡ Refuses number place → Judged b kept₀ (r .verdict) kept
+  unfolding verdictFrom firstRefusal
+  passing-bad {number} {place} e =
+      let v : verdictAt b i ≡ Refuses number place = sym (c .verdict) ∙ e in
+      let t : lineTest (sourcesOf b) ≡ Refuses number place = lines-now ∙ refused-then (answersOf b i) (answersFrom b (lineStart b (i + 1))) v in
+      let f : first (refusedAt b) (sourceCount b) ≡ i = first-is (refusedAt b) (sourceCount b) i l (s .good) (rw v) in
+      record { verdict = e ∙ rw t; left = rw f (s .stored); stored = λ p. absurd (never (sym p ∙ e)) }
 
-  -- the lines before a line of this source, up to which they are good
-  good-before : (k : ℕ) → k < r .line → badLine (allLines b) k ≡ false
-  good-before k m = by (decLt k (lineStart b i))
-    where
-      by : Dec (k < lineStart b i) → badLine (allLines b) k ≡ false
-      by (yes q) = s .good k q
-      by (no q) =
-          bad-at b h i k l (omega (arith, starts)) (omega (arith, c .high))
-          ∙ c .before k (omega (arith, starts)) m
-
-  pub passing-bad : r .good ≡ false → Judged b (Refuses 5 (r .line)) kept
-  unfolding lineTest refuseAtFirst firstRefusal
-  passing-bad e =
-      let z = c .bad e in
-      let n : r .line < length (allLines b) = omega (arith, length-lines b (following b h), stands b h i l .lines, z .0) in
-      let hit : badLine (allLines b) (r .line) ≡ true = bad-at b h i (r .line) l (c .low) (z .0) ∙ z .1 in
-      let f = first-is (badLine (allLines b)) (length (allLines b)) (r .line) n good-before hit in
-      record { verdict = rw (f, lt-ltb (r .line) (length (allLines b)) n); stored = λ p. absurd (never (sym p)) }
-
-  stored-more : {kept′ : List ℕ} → r .good ≡ true → Written kept (figureCount * i) (r .figures) kept′ → (k : ℕ) → k < i + 1 → massFault (sourceAt b k) ≡ 0 → Stored b kept′ k
-  stored-more {kept′} e v k m z = by (decLt k i)
-    where
-      by : Dec (k < i) → Stored b kept′ k
-      by (yes q) = read-before v (figureCount * k) figureCount (omega arith) ∙ s .stored k q z
-      by (no q) =
-          let o : k ≡ i = omega arith in
-          let f : r .figures ≡ figures (entryOf (sourceAt b i)) = c .kept e (c .fault e ∙ rw o at z) in
-          let n : length (r .figures) ≡ figureCount = ap length f ∙ length-figures (entryOf (sourceAt b i)) (source-massed (sourceAt b i)) in
-          rw o (rw (add-zero (figureCount * i)) at (read-inside v 0 figureCount (omega arith)) ∙ take-all figureCount (r .figures) (omega arith) ∙ f)
-
-  pub passing-more : {kept′ : List ℕ} {w′ : Verdict} → r .good ≡ true → Written kept (figureCount * i) (r .figures) kept′ → w′ ≡ waited w (r .fault) i → Passing b kept₀ w′ kept′ (i + 1)
-  unfolding waitedFrom
+  pub passing-more : {kept′ : List ℕ} {w′ : Verdict} → r .verdict ≡ Passes → Written kept (figureCount * i) (r .figures) kept′ → w′ ≡ waited w (r .fault) i → Passing b kept₀ w′ kept′ (i + 1)
+  unfolding waitedFrom verdictFrom keptOf
   passing-more {kept′} {w′} e v u =
+      let t : verdictAt b i ≡ Passes = sym (c .verdict) ∙ e in
+      let fault : r .fault ≡ massFault (sourceAt b i) = c .fault ∙ rw e in
+      let figures : r .figures ≡ keptOf (sourceAt b i) = c .figures ∙ rw e in
       record {
         low = omega arith;
         size = length-written v ∙ s .size;
-        good = λ k m. good-before k (omega (arith, c .all e, next, starts));
-        rest = rw (u, c .fault e) (rw (fault-now b i l) at (s .rest));
-        stored = stored-more e v;
+        good = good-next t;
+        lines = sym (lines-now ∙ passed-then (answersOf b i) (answersFrom b (lineStart b (i + 1))) t);
+        rest = rw (u, fault) (rw (fault-now b i l) at (s .rest));
+        stored = rw (kept-next b i, ← figures) (written-then (s .stored) v (omega (arith, length-keptTo b i)));
       }
+    where
+      good-next : verdictAt b i ≡ Passes → (k : ℕ) → k < i + 1 → refusedAt b k ≡ false
+      good-next t k m = by (decLt k i)
+        where
+          by : Dec (k < i) → refusedAt b k ≡ false
+          by (yes q) = s .good k q
+          by (no q) = let o : k ≡ i = omega arith in rw (o, t)
 
-pub passing-all : {b kept₀ kept : List ℕ} {w : Verdict} {i : ℕ} → Passed b → Passing b kept₀ w kept i → sourceCount b ≤ i → Judged b w kept
-unfolding lineTest waitedFrom firstRefusal
+pub passing-all : {b kept₀ kept : List ℕ} {w : Verdict} {i : ℕ} → Passed b → Passing b kept₀ w kept i → sourceCount b ≤ i → Judged b kept₀ w kept
+unfolding waitedFrom firstRefusal
 passing-all {b} {kept₀} {kept} {w} {i} h s l =
     let o : i ≡ sourceCount b = omega (arith, s .low) in
-    let n = sourceCount b in
-    let lines : lineTest (sourcesOf b) ≡ Passes =
-    passed-at-all 5 (badLine (allLines b)) (length (allLines b)) .1 (λ k m. s .good k (omega (arith, length-lines b (following b h), following b h .last, ap (lineStart b) o))) in
+    let lines : lineTest (sourcesOf b) ≡ Passes = sym (s .lines) ∙ rw (o, following b h .last) (answers-none b) in
     let none : drop i (faults b) ≡ [] = drop-of-length-le (faults b) {i = i} (omega (arith, length-faults b)) in
     let sums : w ≡ massTest (sourcesOf b) = rw none at (s .rest) in
+    let f : first (refusedAt b) (sourceCount b) ≡ i = first-end (refusedAt b) (sourceCount b) (rw o at (s .good)) ∙ sym o in
     record {
       verdict = sums ∙ rw lines (sym (only (massTest (sourcesOf b))));
-      stored = λ p k m. s .stored k (omega arith) (none-faulty b (sym sums ∙ p) k m);
+      left = rw f (s .stored);
+      stored = λ p k m.
+          rw (zero-add (figureCount * k)) at (read-inside (s .stored) (figureCount * k) figureCount (omega (arith, length-keptTo b i)))
+          ∙ kept-at b i k (omega arith)
+          ∙ kept-figures (sourceAt b k) (none-faulty b (sym sums ∙ p) k m);
     }
 
-pub ruleset passing = (begins-first, begins-at, passing-none, passing-bad, passing-more, passing-all)
+pub ruleset passing = (begins-first, begins-at, passing-none, passing-more, passing-all)

@@ -1,18 +1,22 @@
 -- What the sources of a register come to, one by one. Assumes nothing.
-use mathlib.Core.Bool.{Bool, true, false, cond}
-use mathlib.Core.List.{List, [], _∷_}
+use mathlib.Core.Bool.{Bool, cond, not}
+use mathlib.Core.List.{List, [], _∷_, map}
 use mathlib.Core.Path.{_≡_}
-use Prim.Native.Nat.{ℕ, _+_, _*_, _≤_, _<_}
+use Prim.Native.Nat.{ℕ, _+_, _*_, _<_}
 use lib.Dec.{eqb}
 use lib.ListN.{length, take, drop}
 use Rattle.basis.specs.declared.Verdict.the-variants.{Passes, Refuses}
 use Rattle.basis.specs.declared.Verdict.{Verdict}
-use Rattle.basis.specs.Answers.{firstRefusal}
+use Rattle.basis.specs.Bytes.{Written}
+use Rattle.basis.specs.Lists.{countUp, joined}
+use Rattle.basis.specs.First.{first}
+use Rattle.basis.specs.Answers.{firstRefusal, passes}
 use Rattle.headers.specs.Header.{Headed}
-use Rattle.meaning.specs.Methods.{isBad, decoded}
-use Rattle.meaning.specs.Register.{linesAt, lineAt, sourceEntry, methodIn, parameterIn, firstLineIn, lineCountIn, sourceAt, sourceCount, sourcesOf, registerTests}
+use Rattle.meaning.specs.Register.{Source, linesAt, sourceEntry, methodIn, parameterIn, firstLineIn, lineCountIn, sourceAt, sourceCount, sourcesOf, registerTests, decodedLines}
 use Rattle.meaning.specs.Report.{entryOf, figures, figureCount}
-use Rattle.meaning.specs.Calls.{massFault, lineTest, massTest}
+use Rattle.meaning.specs.Calls.{lineTest, massTest}
+use Rattle.summing.specs.Lines.{verdictFrom}
+use Rattle.masses.specs.Judged.{faultAfter, figuresAfter}
 use Rattle.judging.specs.declared.Judgement.{Judgement}
 
 -- a register that tests 1 to 4 have passed
@@ -25,20 +29,20 @@ pub record Begins (b : List ℕ) (base i first : ℕ) : Type 0 where
   pub stand : base ≡ linesAt (sourceCount b)
   pub from : first ≡ firstLineIn (sourceEntry b i)
 
--- whether line j is bad for the method and parameter of source i
-abbrev pub badFor : List ℕ → ℕ → ℕ → Bool
-badFor b i j = isBad (decoded (methodIn (sourceEntry b i)) (parameterIn (sourceEntry b i)) (lineAt b j))
+-- what the lines of source i are answered, by its method and parameter, and whether they are refused
+abbrev pub verdictAt : List ℕ → ℕ → Verdict
+verdictAt b i = let e = sourceEntry b i in verdictFrom b (methodIn e) (parameterIn e) (firstLineIn e) (lineCountIn e)
 
--- source i has good lines up to a line; where that is all of them, its fault is that of its sums, and its figures are its entry's
+abbrev pub refusedAt : List ℕ → ℕ → Bool
+refusedAt b i = not (passes (verdictAt b i))
+
+-- source i: its lines are answered, the next line is the one behind them, and where they pass its fault and its figures are those of its sums
 pub record ComesAt (b : List ℕ) (i : ℕ) (r : Judgement) : Type 0 where
   pub size : length (r .figures) ≡ figureCount
-  pub low : firstLineIn (sourceEntry b i) ≤ r .line
-  pub high : r .line ≤ firstLineIn (sourceEntry b i) + lineCountIn (sourceEntry b i)
-  pub before : (k : ℕ) → firstLineIn (sourceEntry b i) ≤ k → k < r .line → badFor b i k ≡ false
-  pub all : r .good ≡ true → r .line ≡ firstLineIn (sourceEntry b i) + lineCountIn (sourceEntry b i)
-  pub bad : r .good ≡ false → (r .line < firstLineIn (sourceEntry b i) + lineCountIn (sourceEntry b i)) × (badFor b i (r .line) ≡ true)
-  pub fault : r .good ≡ true → r .fault ≡ massFault (sourceAt b i)
-  pub kept : r .good ≡ true → r .fault ≡ 0 → r .figures ≡ figures (entryOf (sourceAt b i))
+  pub verdict : r .verdict ≡ verdictAt b i
+  pub next : r .next ≡ firstLineIn (sourceEntry b i) + lineCountIn (sourceEntry b i)
+  pub fault : r .fault ≡ faultAfter (r .verdict) (decodedLines (sourceAt b i))
+  pub figures : r .figures ≡ figuresAfter (r .verdict) (decodedLines (sourceAt b i))
 
 -- the first fault waits, with the index of its source
 unfoldable pub waited : Verdict → ℕ → ℕ → Verdict
@@ -49,7 +53,15 @@ waited (Refuses number place) fault i = Refuses number place
 abbrev pub Stored : List ℕ → List ℕ → ℕ → Type 0
 Stored b kept i = take figureCount (drop (figureCount * i) kept) ≡ figures (entryOf (sourceAt b i))
 
--- tests 5 to 7, and the figures of all sources where they pass
-pub record Judged (b : List ℕ) (v : Verdict) (kept : List ℕ) : Type 0 where
+-- what is kept of a source whose lines are good, and of the first n sources; a source with a fault has zeros
+unfoldable pub keptOf : Source → List ℕ
+keptOf s = figuresAfter Passes (decodedLines s)
+
+unfoldable pub keptTo : List ℕ → ℕ → List ℕ
+keptTo b n = joined (map (λ i. keptOf (sourceAt b i)) (countUp 0 n))
+
+-- tests 5 to 7; what is kept of the sources before the first whose lines are refused, and behind it what stood there; where the tests pass, the figures of all
+pub record Judged (b kept₀ : List ℕ) (v : Verdict) (kept : List ℕ) : Type 0 where
   pub verdict : v ≡ firstRefusal (lineTest (sourcesOf b) ∷ massTest (sourcesOf b) ∷ [])
+  pub left : Written kept₀ 0 (keptTo b (first (refusedAt b) (sourceCount b))) kept
   pub stored : v ≡ Passes → (i : ℕ) → i < sourceCount b → Stored b kept i

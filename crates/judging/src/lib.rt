@@ -11,10 +11,10 @@ use exact::FIGURES;
 use headers::SOURCE;
 use headers::SOURCES;
 
-// A source of a register: whether its lines are good, the first that is not, and else what it comes to.
+// A source of a register: what its lines are answered, the line behind them, and where they pass what it comes to.
 struct Judgement {
-    good: bool,
-    line: usize,
+    verdict: Verdict,
+    next: usize,
     fault: u32,
     figures: [u64; FIGURES],
 }
@@ -30,11 +30,11 @@ fn judge_entry(register: &[u8], base: usize, i: usize, first: usize) -> Judgemen
     let count = fields::u16_at(register, at + 6) as usize;
     let end = first + count;
     let source = masses::judge_source(register, method, parameter, base, first, end);
-    let line = source.at;
+    let verdict = source.verdict;
     let figures = source.figures;
     Judgement {
-        good: line == end,
-        line,
+        verdict,
+        next: end,
         fault: source.fault,
         figures,
     }
@@ -73,10 +73,10 @@ fn waits(waiting: Verdict, fault: u32, i: usize) -> Verdict
     }
 }
 
-// "5 over all lines, then 6 and 7 source by source in table order", in one pass that keeps each source's figures.
+// "5 over all lines, then 6 and 7 source by source in table order", in one pass that keeps each source's figures up to the first bad line.
 pub fn judge_sources(register: &[u8], kept: &mut [u64]) -> Verdict
     requires { ⌜ Passed (now register) × (figureCount * sourceCount (now register) ≤ length (now kept)) ⌝ }
-    ensures { λ r. ⌜ Judged (now (register .entry)) r (now (kept .exit)) ⌝ }
+    ensures { λ r. ⌜ Judged (now (register .entry)) (now (kept .entry)) r (now (kept .exit)) ⌝ }
 {
     let n = fields::u16_at(register, 8) as usize;
     let base = SOURCES + SOURCE * n;
@@ -85,18 +85,14 @@ pub fn judge_sources(register: &[u8], kept: &mut [u64]) -> Verdict
     let mut i: usize = 0;
     while i < n {
         let source = judge_entry(register, base, i, first);
-        let good = source.good;
-        let line = source.line;
-        if !good {
-            return Verdict::Refuses {
-                number: 5,
-                place: line as u64,
-            };
-        }
+        let verdict = source.verdict;
+        let Verdict::Passes = verdict else {
+            return verdict;
+        };
         let figures = source.figures;
         keep(kept, FIGURES * i, &figures);
         waiting = waits(waiting, source.fault, i);
-        first = line;
+        first = source.next;
         i += 1;
     }
     waiting

@@ -1,27 +1,24 @@
 -- What a source comes to, from the sums of its lines. Assumes nothing.
-use mathlib.Core.List.{List, [], _∷_, _++_}
-use mathlib.Core.Path.{_≡_, subst, _∙_}
-use Prim.Native.Nat.{ℕ, zero, suc, _*_, _-_, _≤_, _<_}
+use mathlib.Core.List.{List}
+use mathlib.Core.Path.{_≡_, refl, _∙_}
+use Prim.Native.Nat.{ℕ, zero, suc, _*_, _-_, _<_}
 use native.Mathlib.Nat.{zero-mul, sub-zero}
 use native.Mathlib.Omega.{arith}
-use borrow.Author.Needs.{needs}
 use lib.Dec.{ltb}
-use lib.ListN.{length, getD}
-use Rattle.meaning.specs.Report.{figureCount}
+use lib.ListN.{getD}
+use Rattle.basis.specs.declared.Verdict.the-variants.{Passes, Refuses}
 use Rattle.basis.specs.Lists.{countUp}
 use Rattle.meaning.specs.declared.Decoded.{Decoded}
-use Rattle.meaning.specs.Masses.{gasCount, added, taken, belowZero, mass, masses, equivalent}
+use Rattle.meaning.specs.Masses.{gasCount, added, taken, belowZero, mass, masses}
 use Rattle.meaning.specs.Calls.{faultOf}
 use Rattle.meaning.proofs.Masses.{only-co2}
 use Rattle.exact.specs.Amounts.{value, scale, nothing}
-use Rattle.exact.proofs.Amounts.{room-less}
 use Rattle.exact.proofs.Scales.{mass-scaled, below-zero-scaled}
 use Rattle.summing.specs.declared.Sums.{Sums}
 use Rattle.summing.specs.declared.Read.{Read}
-use Rattle.summing.specs.Sums.{Roomy}
 use Rattle.summing.specs.Lines.{readFrom, Holds, Reads}
 use Rattle.masses.specs.declared.Judged.{Judged}
-use Rattle.masses.specs.Judged.{netGrams, netMasses, JudgedBy, Comes}
+use Rattle.masses.specs.Judged.{noFigures, figuresBeside, netGrams, netMasses, JudgedBy, Comes}
 
 module _ (ls : List Decoded) (s : Sums) (h : Holds ls s) where
   net-mass : (gas : ℕ) → gas < gasCount → netGrams s gas ≡ mass ls gas
@@ -43,42 +40,17 @@ module _ (ls : List Decoded) (s : Sums) (h : Holds ls s) where
   unfolding faultOf
   fault-is j = j .fault ∙ rw (below-is, net-masses)
 
-  figures-are : {r : Judged} → JudgedBy s r → r .fault ≡ 0 → r .figures ≡ masses ls ++ (equivalent (masses ls) ∷ [])
-  figures-are j z = j .figures z ∙ rw net-masses
+  figures-are : {r : Judged} → JudgedBy s r → r .figures ≡ figuresBeside (faultOf ls) (masses ls)
+  figures-are j = j .figures ∙ rw (fault-is j, net-masses)
 
 -- a bad line, and all lines good
-pub comes-bad : {b : List ℕ} {m p first end fault : ℕ} {r : Read} {figures : List ℕ} → length figures ≡ figureCount → Reads b m p first end r → r .at < end
-    → Comes b m p first end (record { at = r .at; fault = fault; figures = figures })
-comes-bad {r = r} n h l =
-    record {
-      size = n;
-      low = h .summed .low;
-      high = h .summed .high;
-      good = h .summed .good;
-      bad = h .bad;
-      fault = λ e. absurd (omega arith);
-      figures = λ e. absurd (omega arith);
-    }
+pub comes-bad : {b : List ℕ} {m p first end number place : ℕ} {r : Read} → Reads b m p first end r → r .verdict ≡ Refuses number place
+    → Comes b m p first end (record { verdict = r .verdict; fault = 0; figures = noFigures })
+comes-bad h e = record { size = refl; verdict = h .verdict; fault = rw e; figures = rw e }
 
-pub comes-all : {b : List ℕ} {m p first end : ℕ} {r : Read} {j : Judged} → Reads b m p first end r → end ≤ r .at → JudgedBy (r .sums) j
-    → Comes b m p first end (record { at = r .at; fault = j .fault; figures = j .figures })
-comes-all {b} {m} {p} {first} {end} {r} {j} h l w =
-    let e : r .at ≡ end = omega (arith, h .summed .high) in
-    let held : Holds (readFrom b m p first (end - first)) (r .sums) = subst (λ (n : ℕ). Holds (readFrom b m p first (n - first)) (r .sums)) e (h .summed .held) in
-    record {
-      size = w .size;
-      low = h .summed .low;
-      high = h .summed .high;
-      good = h .summed .good;
-      bad = h .bad;
-      fault = λ _. fault-is (readFrom b m p first (end - first)) (r .sums) held w;
-      figures = λ _ z. figures-are (readFrom b m p first (end - first)) (r .sums) held w z;
-    }
-
--- the sums of lines that were all read have room to be rounded
-pub read-roomy : {b : List ℕ} {m p first end : ℕ} {r : Read} → Reads b m p first end r → Roomy 0 (r .sums)
-read-roomy h =
-    let o = h .summed .room in
-    record { gases = o .gases; added = λ gas g. room-less (o .added gas g) (omega arith); taken = room-less (o .taken) (omega arith) }
-
-pub ruleset coming = (needs, comes-bad, comes-all, read-roomy)
+pub comes-all : {b : List ℕ} {m p first end : ℕ} {r : Read} {j : Judged} → Reads b m p first end r → r .verdict ≡ Passes → JudgedBy (r .sums) j
+    → Comes b m p first end (record { verdict = r .verdict; fault = j .fault; figures = j .figures })
+comes-all {b} {m} {p} {first} {end} {r} {j} h e w =
+    let ls = readFrom b m p first (end - first) in
+    let held : Holds ls (r .sums) = rw e at (h .held) in
+    record { size = w .size; verdict = h .verdict; fault = rw e (fault-is ls (r .sums) held w); figures = rw e (figures-are ls (r .sums) held w) }

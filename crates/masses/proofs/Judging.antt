@@ -16,7 +16,6 @@ use Rattle.basis.proofs.Lists.{length-countUp}
 use Rattle.basis.proofs.Counting.{counted-append, counted-list}
 use Rattle.basis.proofs.Filling.{Filled, filled-none, filled-more, filled-all}
 use Rattle.meaning.specs.Masses.{gasCount, rounded, equivalent, limit}
-use Rattle.meaning.specs.Report.{figureCount}
 use Rattle.exact.specs.declared.Amount.{Amount}
 use Rattle.exact.specs.declared.Weighed.{Weighed}
 use Rattle.exact.specs.declared.Weighed.the-variants.{Within, Above}
@@ -26,7 +25,7 @@ use Rattle.exact.proofs.Amounts.{room-left}
 use Rattle.summing.specs.declared.Sums.{Sums}
 use Rattle.summing.specs.Sums.{Roomy}
 use Rattle.masses.specs.declared.Judged.{Judged}
-use Rattle.masses.specs.Judged.{AllRoomy, gramsAt, gramsOf, WeighedBy, netGrams, netMasses, JudgedBy}
+use Rattle.masses.specs.Judged.{AllRoomy, gramsAt, gramsOf, noFigures, WeighedBy, netGrams, netMasses, JudgedBy}
 
 -- so many gases are rounded
 pub record Rounding (amounts : List Amount) (to₀ to : List ℕ) (gas : ℕ) : Type 0 where
@@ -100,22 +99,21 @@ apart e = let z : _≡_ {A = ℕ} 0 1 = cc in absurd (omega arith)
 same-within : {n m : ℕ} → Within n ≡ Within m → n ≡ m
 same-within e = cc
 
-pub weighed-above : {ms : List ℕ} {w : Weighed} {figures : List ℕ} → length figures ≡ figureCount → w ≡ withinLimit ms → w ≡ Above → WeighedBy ms (record { fault = 7; figures = figures })
-weighed-above {ms} {w} n e a =
-    ⊎-elim (λ h. record { size = n; fault = rw (h .1); figures = λ z. absurd (omega arith) }) (λ h. apart (sym a ∙ h .0)) (limit-either ms w e)
+pub weighed-above : {ms : List ℕ} {w : Weighed} → w ≡ withinLimit ms → w ≡ Above → WeighedBy ms (record { fault = 7; figures = noFigures })
+weighed-above {ms} {w} e a = ⊎-elim (λ h. record { size = refl; fault = rw (h .1); figures = refl }) (λ h. apart (sym a ∙ h .0)) (limit-either ms w e)
 
 pub weighed-within : {ms : List ℕ} {w : Weighed} {n : ℕ} {figures : List ℕ} → length ms ≡ gasCount → w ≡ withinLimit ms → w ≡ Within n → figures ≡ ms ++ (n ∷ []) → WeighedBy ms (record { fault = 0; figures = figures })
 weighed-within {ms} {w} {n} m e a f =
     ⊎-elim (λ h. apart (sym (h .0) ∙ a))
-    (λ h. record { size = ap length f ∙ length-append ms (n ∷ []) ∙ ap (λ (k : ℕ). k + 1) m; fault = rw (h .1); figures = λ z. f ∙ ap (λ (x : ℕ). ms ++ (x ∷ [])) (same-within (sym a ∙ h .0)) })
+    (λ h. record { size = ap length f ∙ length-append ms (n ∷ []) ∙ ap (λ (k : ℕ). k + 1) m; fault = rw (h .1); figures = f ∙ ap (λ (x : ℕ). ms ++ (x ∷ [])) (same-within (sym a ∙ h .0)) })
     (limit-either ms w e)
 
 -- CO2 with what is taken from it
 abbrev pub co2 : Sums → Amount
 co2 s = getD (s .added) 0 nothing
 
-pub judged-below : {s : Sums} {figures : List ℕ} → length figures ≡ figureCount → ltb (value (co2 s)) (value (s .taken)) ≡ true → JudgedBy s (record { fault = 6; figures = figures })
-judged-below n h = record { size = n; fault = rw h; figures = λ z. absurd (omega arith) }
+pub judged-below : {s : Sums} → ltb (value (co2 s)) (value (s .taken)) ≡ true → JudgedBy s (record { fault = 6; figures = noFigures })
+judged-below h = record { size = refl; fault = rw h; figures = refl }
 
 module _ {s : Sums} {net : Amount} (room : Roomy 0 s) (left : Subtracted (co2 s) (s .taken) net) where
   length-net : length (set (s .added) 0 net) ≡ gasCount

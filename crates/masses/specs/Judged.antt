@@ -1,19 +1,21 @@
 -- The masses and the equivalent of sums, and what they are refused for. Assumes nothing.
-use mathlib.Core.Bool.{true, false, cond}
+use mathlib.Core.Bool.{cond}
 use mathlib.Core.List.{List, [], _∷_, _++_, map}
 use mathlib.Core.Path.{_≡_}
-use Prim.Native.Nat.{ℕ, zero, suc, _-_, _≤_, _<_}
+use Prim.Native.Nat.{ℕ, zero, suc, _-_, _<_}
 use lib.Dec.{ltb}
-use lib.ListN.{length, getD}
+use lib.ListN.{length, getD, replicate}
+use Rattle.basis.specs.declared.Verdict.{Verdict}
+use Rattle.basis.specs.declared.Verdict.the-variants.{Passes, Refuses}
 use Rattle.basis.specs.Lists.{countUp}
-use Rattle.meaning.specs.Methods.{isBad}
+use Rattle.meaning.specs.declared.Decoded.{Decoded}
 use Rattle.meaning.specs.Masses.{gasCount, rounded, masses, equivalent, limit}
 use Rattle.meaning.specs.Report.{figureCount}
 use Rattle.meaning.specs.Calls.{faultOf}
 use Rattle.exact.specs.declared.Amount.{Amount}
 use Rattle.exact.specs.Amounts.{gram, value, nothing, Room}
 use Rattle.summing.specs.declared.Sums.{Sums}
-use Rattle.summing.specs.Lines.{readAt, readFrom}
+use Rattle.summing.specs.Lines.{readFrom, verdictFrom}
 use Rattle.masses.specs.declared.Judged.{Judged}
 use Rattle.masses.specs.declared.Source.{Source}
 
@@ -29,11 +31,20 @@ gramsAt amounts gas = rounded (value (getD amounts gas nothing)) gram
 unfoldable pub gramsOf : List Amount → List ℕ
 gramsOf amounts = map (gramsAt amounts) (countUp 0 gasCount)
 
+-- figures where there are none to state
+abbrev pub noFigures : List ℕ
+noFigures = replicate figureCount 0
+
+-- "CO2, CH4, N2O, CO2-equivalent", and none beside a fault
+abbrev pub figuresBeside : ℕ → List ℕ → List ℕ
+figuresBeside zero masses = masses ++ (equivalent masses ∷ [])
+figuresBeside (suc fault) masses = noFigures
+
 -- what masses come to: 7, or 0 with their figures
 pub record WeighedBy (masses : List ℕ) (r : Judged) : Type 0 where
   pub size : length (r .figures) ≡ figureCount
   pub fault : r .fault ≡ cond (ltb limit (equivalent masses)) 7 0
-  pub figures : r .fault ≡ 0 → r .figures ≡ masses ++ (equivalent masses ∷ [])
+  pub figures : r .figures ≡ figuresBeside (r .fault) masses
 
 -- the grams of a gas: of CO2 what is added less what is taken
 unfoldable pub netGrams : Sums → ℕ → ℕ
@@ -47,15 +58,20 @@ netMasses s = map (netGrams s) (countUp 0 gasCount)
 pub record JudgedBy (s : Sums) (r : Judged) : Type 0 where
   pub size : length (r .figures) ≡ figureCount
   pub fault : r .fault ≡ cond (ltb (value (getD (s .added) 0 nothing)) (value (s .taken))) 6 (cond (ltb limit (equivalent (netMasses s))) 7 0)
-  pub figures : r .fault ≡ 0 → r .figures ≡ netMasses s ++ (equivalent (netMasses s) ∷ [])
+  pub figures : r .figures ≡ figuresBeside (r .fault) (netMasses s)
 
--- a source's lines are good up to an index; where that is all of them, its fault and its figures are those of its lines
+-- the fault and the figures of lines once they are answered: neither where they are refused
+abbrev pub faultAfter : Verdict → List Decoded → ℕ
+faultAfter Passes ls = faultOf ls
+faultAfter (Refuses number place) ls = 0
+
+abbrev pub figuresAfter : Verdict → List Decoded → List ℕ
+figuresAfter Passes ls = figuresBeside (faultOf ls) (masses ls)
+figuresAfter (Refuses number place) ls = noFigures
+
+-- a source's lines are answered; where they pass, its fault and its figures are those of its lines
 pub record Comes (b : List ℕ) (m p first end : ℕ) (r : Source) : Type 0 where
   pub size : length (r .figures) ≡ figureCount
-  pub low : first ≤ r .at
-  pub high : r .at ≤ end
-  pub good : (k : ℕ) → first ≤ k → k < r .at → isBad (readAt b m p k) ≡ false
-  pub bad : r .at < end → isBad (readAt b m p (r .at)) ≡ true
-  pub fault : r .at ≡ end → r .fault ≡ faultOf (readFrom b m p first (end - first))
-  pub figures : r .at ≡ end → r .fault ≡ 0
-      → let ms = masses (readFrom b m p first (end - first)) in r .figures ≡ ms ++ (equivalent ms ∷ [])
+  pub verdict : r .verdict ≡ verdictFrom b m p first (end - first)
+  pub fault : r .fault ≡ faultAfter (r .verdict) (readFrom b m p first (end - first))
+  pub figures : r .figures ≡ figuresAfter (r .verdict) (readFrom b m p first (end - first))

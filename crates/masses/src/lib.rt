@@ -6,6 +6,7 @@ ghost use Rattle.meaning.specs.Masses.{gasCount};
 ghost use Rattle.summing.specs.Sums.{Roomy};
 ghost use Rattle.summing.specs.Lines.{Lines};
 ghost use Rattle.masses.specs.Judged.{AllRoomy, gramsOf, WeighedBy, JudgedBy, Comes};
+use basis::Verdict;
 use exact::Amount;
 use exact::FIGURES;
 use exact::GASES;
@@ -18,9 +19,9 @@ pub struct Judged {
     pub figures: [u64; FIGURES],
 }
 
-// A source with its lines: how far they are good, and where all are, what it comes to.
+// A source with its lines: what they are answered, and where all are good, what it comes to.
 pub struct Source {
-    pub at: usize,
+    pub verdict: Verdict,
     pub fault: u32,
     pub figures: [u64; FIGURES],
 }
@@ -90,7 +91,7 @@ fn judge(sums: Sums) -> Judged
     weigh(masses)
 }
 
-// The lines of a source from first up to end, read, summed and judged.
+// The lines of a source from first up to end, read, summed and judged, or refused.
 pub fn judge_source(
     register: &[u8],
     method: u64,
@@ -103,18 +104,18 @@ pub fn judge_source(
     ensures { λ r. ⌜ Comes (now (register .entry)) method parameter first end r ⌝ }
 {
     let read = summing::read_lines(register, method, parameter, base, first, end);
-    let at = read.at;
-    if at < end {
+    let verdict = read.verdict;
+    let Verdict::Passes = verdict else {
         return Source {
-            at,
+            verdict,
             fault: 0,
             figures: [0u64; FIGURES],
         };
-    }
+    };
     let judged = judge(read.sums);
     let figures = judged.figures;
     Source {
-        at,
+        verdict,
         fault: judged.fault,
         figures,
     }

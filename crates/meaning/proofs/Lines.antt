@@ -1,17 +1,36 @@
 -- The lines of all sources, one behind another: line j of the table is a line of the source whose block holds it. Assumes nothing.
 use mathlib.Core.List.{List, map, map-map}
-use mathlib.Core.Path.{_≡_, sym, ap, _∙_}
+use mathlib.Core.Bool.{Bool}
+use mathlib.Core.Path.{_≡_, refl, sym, ap, _∙_}
 use Prim.Native.Nat.{ℕ, _+_, _≤_, _<_}
 use native.Mathlib.Nat.{add-zero, zero-add, sub-zero}
 use native.Mathlib.Numerals.{add-one}
 use native.Mathlib.Omega.{arith}
 use lib.ListN.{length, getD}
 use Rattle.basis.specs.Lists.{countUp, joined}
+use Rattle.basis.specs.Answers.{refuseIf, refuseAtFirst, firstRefusal}
+use Rattle.basis.proofs.Answers.{refuse-each}
+use Rattle.basis.proofs.ByIndex.{same-by-index}
 use Rattle.basis.proofs.Blocks.{Blocks, blocks-length, blocks-find, blocks-at}
 use Rattle.meaning.specs.declared.Decoded.{Decoded}
-use Rattle.meaning.specs.declared.Decoded.the-variants.{Bad}
-use Rattle.meaning.specs.Methods.{decoded}
-use Rattle.meaning.specs.Register.{sourceCount, lineCount, lineAt, sourceEntry, methodIn, parameterIn, firstLineIn, lineCountIn, sourceAt, sourcesOf, lineStart, decodedLines}
+use Rattle.meaning.specs.declared.Decoded.the-variants.{Good, Bad}
+use Rattle.meaning.specs.Methods.{decoded, isBad, refusalOf}
+use Rattle.meaning.specs.Register.{Source, sourceCount, lineCount, lineAt, sourceEntry, methodIn, parameterIn, firstLineIn, lineCountIn, sourceAt, sourcesOf, lineStart, decodedLines}
+use Rattle.meaning.specs.Calls.{lineTest}
+
+-- "5 over all lines" is a test at the first line that is bad
+abbrev pub badLine : List Decoded → ℕ → Bool
+badLine ls j = isBad (getD ls j Bad)
+
+refusal-if : (d : Decoded) (j : ℕ) → refuseIf (isBad d) 5 j ≡ refusalOf d j
+refusal-if (Good l) j = refl
+refusal-if Bad j = refl
+
+pub line-test : (ss : List Source) → (let ls = joined (map decodedLines ss) in lineTest ss ≡ refuseAtFirst 5 (badLine ls) (length ls))
+unfolding lineTest
+line-test ss =
+    let ls = joined (map decodedLines ss) in
+    sym (refuse-each 5 (badLine ls) (length ls) ∙ ap firstRefusal (same-by-index _ _ (length ls) 0 (λ j l g. refusal-if (getD ls j Bad) j)))
 
 -- each source's lines begin where those before it ended, and the last ends at m
 pub record Following (b : List ℕ) : Type 0 where

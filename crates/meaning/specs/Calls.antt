@@ -6,14 +6,14 @@ use lib.Dec.{eqb, ltb}
 use lib.ListN.{length, getD}
 use Rattle.basis.specs.declared.Answer.{Answer}
 use Rattle.basis.specs.declared.Verdict.{Verdict}
-use Rattle.basis.specs.Lists.{any, stands, joined, without}
+use Rattle.basis.specs.Lists.{countUp, any, stands, joined, without}
 use Rattle.basis.specs.First.{first}
-use Rattle.basis.specs.Answers.{refuseIf, refuseAtFirst, firstRefusal, passes, answer, Outcome, settled}
+use Rattle.basis.specs.Answers.{refuseIf, firstRefusal, passes, answer, Outcome, settled}
 use Rattle.meaning.specs.declared.Decoded.{Decoded}
 use Rattle.meaning.specs.declared.Decoded.the-variants.{Bad}
 use Rattle.meaning.specs.declared.Part.{Part}
 use Rattle.meaning.specs.declared.Found.{Found}
-use Rattle.meaning.specs.Methods.{isBad}
+use Rattle.meaning.specs.Methods.{refusalOf}
 use Rattle.meaning.specs.Masses.{belowZero, masses, equivalent, limit}
 use Rattle.meaning.specs.Register.{Source, yearOf, sourceCount, mostSources, sourcesOf, registerTests, decodedLines, sourceEntry, numberIn, nameLengthIn, namePlace}
 use Rattle.meaning.specs.Report.{Entry, entryOf, inOrder, reportBytes, reportYear, entriesOf, entryCount, wellFormed}
@@ -28,13 +28,10 @@ unfoldable pub written : List Verdict → List ℕ → List ℕ → Outcome
 written tests made buffer = settled (firstRefusal (tests ++ (roomTest made buffer ∷ []))) made buffer
 
 -- "5 | a line breaks its ranges or is wrong for its method | first such line's index", over the lines of all sources
-unfoldable pub badLine : List Decoded → ℕ → Bool
-badLine ls j = isBad (getD ls j Bad)
-
 unfoldable pub lineTest : List Source → Verdict
 lineTest ss =
     let ls = joined (map decodedLines ss) in
-    refuseAtFirst 5 (badLine ls) (length ls)
+    firstRefusal (map (λ j. refusalOf (getD ls j Bad) j) (countUp 0 (length ls)))
 
 -- what a source is refused for: "6 | CO2 sum below zero"; "7 | equivalent above 10^15"; 0 where it is not
 unfoldable pub faultOf : List Decoded → ℕ

@@ -1,20 +1,20 @@
 -- The lines of a source, one more at each turn. Assumes nothing.
-use mathlib.Core.Bool.{false}
 use mathlib.Core.List.{List, [], _∷_, _++_, map, map-append}
 use mathlib.Core.Path.{_≡_, refl, sym, ap, subst, _∙_}
-use Prim.Native.Nat.{ℕ, _+_, _*_, _-_, _≤_, _<_}
-use native.Mathlib.Decide.{decLt}
+use Prim.Native.Nat.{ℕ, suc, _+_, _*_, _-_, _≤_, _<_}
 use native.Mathlib.Nat.{add-zero, zero-mul, add-mul}
 use native.Mathlib.Omega.{arith}
 use lib.ListN.{getD, drop, replicate, getD-replicate}
+use Rattle.basis.specs.declared.Verdict.the-variants.{Passes, Refuses}
 use Rattle.basis.specs.Lists.{sum, countUp}
+use Rattle.basis.specs.Answers.{firstRefusal}
 use Rattle.basis.proofs.Lists.{sum-append}
 use Rattle.basis.proofs.Counting.{counted-append}
 use Rattle.meaning.specs.declared.Line.{Line}
 use Rattle.meaning.specs.declared.RawLine.{RawLine}
 use Rattle.meaning.specs.declared.Decoded.{Decoded}
 use Rattle.meaning.specs.declared.Decoded.the-variants.{Good, Bad}
-use Rattle.meaning.specs.Methods.{mostQuantity, decoded, isBad}
+use Rattle.meaning.specs.Methods.{mostQuantity, decoded}
 use Rattle.methods.specs.Ranges.{KindFits, LineFits}
 use Rattle.meaning.specs.Register.{mostLines, lineLength, lineOf}
 use Rattle.meaning.specs.Masses.{gasCount, carbonDioxide, added, taken, addsTo, takesFrom}
@@ -22,7 +22,7 @@ use Rattle.exact.specs.Amounts.{scale, nothing}
 use Rattle.exact.proofs.Amounts.{value-nothing, room-first, room-less}
 use Rattle.summing.specs.declared.Sums.{Sums}
 use Rattle.summing.specs.Sums.{Roomy, Counts}
-use Rattle.summing.specs.Lines.{readAt, readFrom, Lines, Holds, Summed, Reads}
+use Rattle.summing.specs.Lines.{readAt, readFrom, verdictFrom, Lines, Holds, Reads}
 
 -- one line more is read behind the others
 read-more : (b : List ℕ) (m p first k : ℕ) → readFrom b m p first (k + 1) ≡ readFrom b m p first k ++ (readAt b m p (first + k) ∷ [])
@@ -62,6 +62,14 @@ none-holds : Holds [] none
 unfolding added taken sum
 none-holds = record { added = λ gas g. rw (none-at gas g) (value-nothing ∙ sym (zero-mul (scale gas))); taken = value-nothing }
 
+-- the lines before line j are good, and are summed; what is left is answered as the whole, and has room
+pub record Summed (b : List ℕ) (m p first end : ℕ) (s : Sums) (j : ℕ) : Type 0 where
+  pub low : first ≤ j
+  pub high : j ≤ end
+  pub left : verdictFrom b m p j (end - j) ≡ verdictFrom b m p first (end - first)
+  pub held : Holds (readFrom b m p first (j - first)) s
+  pub room : Roomy (end - j) s
+
 pub summed-none : {b : List ℕ} {m p base first end : ℕ} → Lines b m p base first end → Summed b m p first end none first
 unfolding readFrom countUp
 summed-none {first = first} {end = end} h =
@@ -69,10 +77,19 @@ summed-none {first = first} {end = end} h =
     record {
       low = omega arith;
       high = h .order;
-      good = λ k l g. absurd (omega arith);
+      left = refl;
       held = rw z none-holds;
       room = none-roomy (end - first) (omega (arith, h .few));
     }
+
+-- what a good line is answered, and a bad one
+answer-good : (b : List ℕ) (m p at k : ℕ) {l : Line} → readAt b m p at ≡ Good l → verdictFrom b m p at (suc k) ≡ verdictFrom b m p (at + 1) k
+unfolding verdictFrom firstRefusal countUp
+answer-good b m p at k e = rw e
+
+answer-bad : (b : List ℕ) (m p at k : ℕ) → readAt b m p at ≡ Bad → verdictFrom b m p at (suc k) ≡ Refuses 5 at
+unfolding verdictFrom firstRefusal countUp
+answer-bad b m p at k e = rw e
 
 -- one more line, which is good
 pub summed-more : {b : List ℕ} {m p first end at : ℕ} {s r : Sums} {l : Line} → Summed b m p first end s at → at < end → readAt b m p at ≡ Good l → Counts s l r
@@ -81,24 +98,32 @@ summed-more {b} {m} {p} {first} {end} {at} {s} {r} {l} h less e c =
     let k : at + 1 - first ≡ at - first + 1 = omega (arith, h .low) in
     let f : first + (at - first) ≡ at = omega (arith, h .low) in
     let o : end - at ≡ end - (at + 1) + 1 = omega arith in
+    let n : end - at ≡ suc (end - (at + 1)) = omega arith in
     record {
       low = omega (arith, h .low);
       high = omega arith;
-      good = λ j l g. before j l g (decLt j at);
+      left = sym (answer-good b m p at (end - (at + 1)) e) ∙ rw n at (h .left);
       held = rw (k, read-more b m p first (at - first), f, e) (holds-more (readFrom b m p first (at - first)) l s r (h .held) c);
       room = roomy-more (rw o at (h .room)) c;
     }
-  where
-    before : (j : ℕ) → first ≤ j → j < at + 1 → Dec (j < at) → isBad (readAt b m p j) ≡ false
-    before j l g (yes q) = h .good j l q
-    before j l g (no q) = let z : j ≡ at = omega arith in rw (z, e)
+
+-- the sums of the lines that were read have room to be rounded
+room-left : {lines : ℕ} {s : Sums} → Roomy lines s → Roomy 0 s
+room-left r = record { gases = r .gases; added = λ gas g. room-less (r .added gas g) (omega arith); taken = room-less (r .taken) (omega arith) }
 
 -- a line that is bad ends it, and so does the end
-pub reads-bad : {b : List ℕ} {m p first end at : ℕ} {s : Sums} → Summed b m p first end s at → readAt b m p at ≡ Bad → Reads b m p first end (record { at = at; sums = s })
-reads-bad h e = record { summed = h; bad = λ l. rw e }
+reads-bad : {b : List ℕ} {m p first end at : ℕ} {s : Sums} → Summed b m p first end s at → at < end → readAt b m p at ≡ Bad
+    → Reads b m p first end (record { verdict = Refuses 5 at; sums = s })
+reads-bad {b} {m} {p} {end = end} {at = at} h less e =
+    let n : end - at ≡ suc (end - (at + 1)) = omega arith in
+    record { verdict = sym (answer-bad b m p at (end - (at + 1)) e) ∙ rw n at (h .left); held = h .held; room = room-left (h .room) }
 
-pub reads-all : {b : List ℕ} {m p first end at : ℕ} {s : Sums} → Summed b m p first end s at → end ≤ at → Reads b m p first end (record { at = at; sums = s })
-reads-all h l = record { summed = h; bad = λ g. absurd (omega arith) }
+pub reads-all : {b : List ℕ} {m p first end at : ℕ} {s : Sums} → Summed b m p first end s at → end ≤ at → Reads b m p first end (record { verdict = Passes; sums = s })
+unfolding verdictFrom firstRefusal countUp
+reads-all {end = end} {at = at} h l =
+    let e : at ≡ end = omega (arith, h .high) in
+    let n : end - at ≡ 0 = omega arith in
+    record { verdict = rw n at (h .left); held = rw e at (h .held); room = room-left (h .room) }
 
 -- what decoding makes of the bytes at a line's place is the line read
 read-is : {b : List ℕ} {m p base first end : ℕ} {raw : RawLine} {d : Decoded} (at : ℕ) → Lines b m p base first end → raw ≡ lineOf (drop (base + lineLength * at) b) → d ≡ decoded m p raw
@@ -106,9 +131,9 @@ read-is : {b : List ℕ} {m p base first end : ℕ} {raw : RawLine} {d : Decoded
 read-is {b} {m} {p} at h r e = sym (e ∙ ap (decoded m p) (r ∙ ap (λ (x : ℕ). lineOf (drop (x + lineLength * at) b)) (h .begin)))
 
 -- the turns of the loop: a bad line ends it, a good one is counted
-pub reads-stop : {b : List ℕ} {m p base first end at : ℕ} {s : Sums} {raw : RawLine} {d : Decoded} → Lines b m p base first end → Summed b m p first end s at
-    → raw ≡ lineOf (drop (base + lineLength * at) b) → (d ≡ decoded m p raw) × LineFits d → d ≡ Bad → Reads b m p first end (record { at = at; sums = s })
-reads-stop {at = at} h s r e z = reads-bad s (read-is at h r (e .0) ∙ z)
+pub reads-stop : {b : List ℕ} {m p base first end at : ℕ} {s : Sums} {raw : RawLine} {d : Decoded} → Lines b m p base first end → Summed b m p first end s at → at < end
+    → raw ≡ lineOf (drop (base + lineLength * at) b) → (d ≡ decoded m p raw) × LineFits d → d ≡ Bad → Reads b m p first end (record { verdict = Refuses 5 at; sums = s })
+reads-stop {at = at} h s less r e z = reads-bad s less (read-is at h r (e .0) ∙ z)
 
 pub summed-turn : {b : List ℕ} {m p base first end at : ℕ} {s r : Sums} {raw : RawLine} {d : Decoded} {l : Line} → Lines b m p base first end → Summed b m p first end s at → at < end
     → raw ≡ lineOf (drop (base + lineLength * at) b) → (d ≡ decoded m p raw) × LineFits d → d ≡ Good l → Counts s l r → Summed b m p first end r (at + 1)

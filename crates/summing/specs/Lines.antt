@@ -1,12 +1,15 @@
 -- The lines of a source, read one behind another and summed up to the first that is bad. Assumes nothing.
-use mathlib.Core.Bool.{true, false}
+use mathlib.Core.Bool.{true}
 use mathlib.Core.List.{List, map}
 use mathlib.Core.Path.{_≡_}
 use Prim.Native.Nat.{ℕ, _+_, _*_, _-_, _≤_, _<_}
 use lib.ListN.{length, getD}
+use Rattle.basis.specs.declared.Verdict.{Verdict}
+use Rattle.basis.specs.declared.Verdict.the-variants.{Passes, Refuses}
 use Rattle.basis.specs.Lists.{countUp}
+use Rattle.basis.specs.Answers.{firstRefusal}
 use Rattle.meaning.specs.declared.Decoded.{Decoded}
-use Rattle.meaning.specs.Methods.{listed, decoded, isBad}
+use Rattle.meaning.specs.Methods.{listed, decoded, refusalOf}
 use Rattle.meaning.specs.Masses.{gasCount, carbonDioxide, added, taken}
 use Rattle.meaning.specs.Register.{sourceCount, mostLines, linesAt, lineLength, lineAt}
 use Rattle.exact.specs.Amounts.{value, scale, nothing}
@@ -21,6 +24,15 @@ readAt b m p j = decoded m p (lineAt b j)
 unfoldable pub readFrom : List ℕ → ℕ → ℕ → ℕ → ℕ → List Decoded
 readFrom b m p first count = map (readAt b m p) (countUp first count)
 
+-- what so many lines from one on are answered: the refusal of the first that is bad
+unfoldable pub verdictFrom : List ℕ → ℕ → ℕ → ℕ → ℕ → Verdict
+verdictFrom b m p first count = firstRefusal (map (λ j. refusalOf (readAt b m p j) j) (countUp first count))
+
+-- the line before which lines are summed: the one that is refused, or the end
+abbrev pub upTo : Verdict → ℕ → ℕ
+upTo Passes end = end
+upTo (Refuses number place) end = place
+
 -- the lines from `first` up to `end` stand in the register from byte `base` on, and belong to a method and parameter that are listed together
 pub record Lines (b : List ℕ) (m p base first end : ℕ) : Type 0 where
   pub pair : listed m p ≡ true
@@ -34,15 +46,8 @@ pub record Holds (ls : List Decoded) (s : Sums) : Type 0 where
   pub added : (gas : ℕ) → gas < gasCount → value (getD (s .added) gas nothing) ≡ added gas ls * scale gas
   pub taken : value (s .taken) ≡ taken carbonDioxide ls * scale carbonDioxide
 
--- the lines before line j are good, and are summed; there is room for those up to the end
-pub record Summed (b : List ℕ) (m p first end : ℕ) (s : Sums) (j : ℕ) : Type 0 where
-  pub low : first ≤ j
-  pub high : j ≤ end
-  pub good : (k : ℕ) → first ≤ k → k < j → isBad (readAt b m p k) ≡ false
-  pub held : Holds (readFrom b m p first (j - first)) s
-  pub room : Roomy (end - j) s
-
--- the lines were summed up to the first bad one, or all of them
+-- the lines are answered, and are summed up to the first bad one, or all of them; the sums have room to be rounded
 pub record Reads (b : List ℕ) (m p first end : ℕ) (r : Read) : Type 0 where
-  pub summed : Summed b m p first end (r .sums) (r .at)
-  pub bad : r .at < end → isBad (readAt b m p (r .at)) ≡ true
+  pub verdict : r .verdict ≡ verdictFrom b m p first (end - first)
+  pub held : Holds (readFrom b m p first (upTo (r .verdict) end - first)) (r .sums)
+  pub room : Roomy 0 (r .sums)

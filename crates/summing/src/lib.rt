@@ -7,6 +7,7 @@ ghost use Rattle.meaning.specs.Methods.{mostQuantity};
 ghost use Rattle.methods.specs.Ranges.{KindFits};
 ghost use Rattle.summing.specs.Sums.{Roomy, Counts};
 ghost use Rattle.summing.specs.Lines.{Lines, Reads};
+use basis::Verdict;
 use exact::Amount;
 use exact::GASES;
 use meaning::Decoded;
@@ -19,9 +20,9 @@ pub struct Sums {
     pub taken: Amount,
 }
 
-// How far the lines of a source are good, and what those lines come to.
+// What the lines of a source are answered, and what those before the first bad one come to.
 pub struct Read {
-    pub at: usize,
+    pub verdict: Verdict,
     pub sums: Sums,
 }
 
@@ -76,7 +77,7 @@ fn with_line(sums: Sums, line: Line) -> Sums
     Sums { added, taken }
 }
 
-// The lines of a source from first up to end, read and summed: decoding yields an enum, and a bad line ends it.
+// "A line that is not one of its method's kinds is refused": the lines of a source from first up to end, read and summed, or refusal 5 at the first bad one.
 pub fn read_lines(
     register: &[u8],
     method: u64,
@@ -97,10 +98,19 @@ pub fn read_lines(
         let raw = line_at(register, base + LINE_LENGTH * at);
         let decoded = methods::decode(method, parameter, raw);
         let Decoded::Good(line) = decoded else {
-            return Read { at, sums };
+            return Read {
+                verdict: Verdict::Refuses {
+                    number: 5,
+                    place: at as u64,
+                },
+                sums,
+            };
         };
         sums = with_line(sums, line);
         at += 1;
     }
-    Read { at, sums }
+    Read {
+        verdict: Verdict::Passes,
+        sums,
+    }
 }

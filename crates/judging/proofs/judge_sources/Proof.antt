@@ -1,6 +1,5 @@
 use Prim.Native.Nat.{_-_}
 use native.Mathlib.Omega.{arith}
-use borrow.Author.Tests.{not-true, not-false}
 use mathlib.Core.Path.{_≡_}
 use borrow.Author.Needs.{needs}
 use Rattle.meaning.specs.Register.{linesAt, sourceCount, lineStart}
@@ -26,14 +25,16 @@ judge-sources-spec =
     (λ c. omega arith)
     (λ c. (search passing, search passing, omega arith, begins-first _))
     (λ c κs. (search passing, omega arith, search passing))
+    (λ c. search needs)
+    (λ c. search needs)
     (λ c. search passing)
-    (λ c. passing-bad (c .before .before .before .before .before .before .before .pre .0) (c .before .before .before .loop .inv .0) (omega arith) (c .before .judge-entry .ensures) (not-true _ (c .if1 .taken)))
+    (λ c. passing-bad (c .before .before .before .before .before .before .before .before .pre .0) (c .before .before .before .before .loop .inv .0) (omega arith) (c .before .before .judge-entry .ensures) (c .enum-told2 .given .1))
     (λ c. omega arith)
     (λ c. search (needs, passing))
     (λ c κs. omega arith)
     (λ c κs. search passing)
     (λ c. omega arith)
     (λ c. omega arith)
-    (λ c. (passing-more (c .before .before .before .before .before .before .before .before .before .before .before .before .before .before .pre .0) (search passing) (omega arith) (c .before .before .before .before .before .before .before .before .judge-entry .ensures) (not-false _ (c .before .before .before .before .before .before .before .if1 .left)) (c .before .before .before .keep .ensures) (c .waits .ensures), search passing, search passing, begins-next (c .before .before .before .before .before .before .before .before .before .before .before .before .before .before .pre .0) (omega arith) (c .before .before .before .before .before .before .before .before .judge-entry .ensures) (not-false _ (c .before .before .before .before .before .before .before .if1 .left))))
+    (λ c. (passing-more (c .before .before .before .before .before .before .before .before .before .before .before .before .before .before .before .pre .0) (c .before .before .before .before .before .before .before .before .before .before .before .loop .inv .0) (omega arith) (c .before .before .before .before .before .before .before .before .before .judge-entry .ensures) (c .before .before .before .before .before .before .before .enum-told .given .1) (c .before .before .before .keep .ensures) (c .waits .ensures), search passing, search passing, begins-next (c .before .before .before .before .before .before .before .before .before .before .before .before .before .before .before .pre .0) (omega arith) (c .before .before .before .before .before .before .before .before .before .judge-entry .ensures)))
     (λ c. search passing)
     (λ c. passing-all (c .before .before .before .before .before .pre .0) (c .before .loop .inv .0) (omega arith)))

@@ -10,7 +10,7 @@ judge-spec =
     (tie.spec
     (λ c. omega arith)
     (λ c κs. let p = c .before .before .before .pre in (p .added 0 (omega arith) .low-fits, p .taken .low-fits))
-    (λ c. judged-below (omega arith) (sym (c .before .below .ensures) ∙ c .if1 .taken))
+    (λ c. judged-below (sym (c .before .below .ensures) ∙ c .if1 .taken))
     (λ c κs. let p = c .before .before .before .before .before .pre in (p .added 0 (omega arith) .low-fits, p .taken .low-fits, sym (c .before .below .ensures) ∙ c .if1 .left))
     (λ c. omega arith)
     (λ c κs. net-roomy (c .before .before .before .before .before .before .pre) (c .subtract .ensures))

@@ -1,8 +1,7 @@
 use borrow.Author.Needs.{needs}
 use native.Mathlib.Omega.{arith}
 use Prim.Native.Nat.{_-_}
-use Rattle.summing.specs.Lines.{Summed}
-use Rattle.summing.proofs.Reading.{summed-none, reads-all, reads-stop, summed-turn, good-fits, roomy-one}
+use Rattle.summing.proofs.Reading.{Summed, summed-none, reads-all, reads-stop, summed-turn, good-fits, roomy-one}
 use Rattle.summing.proofs.read_lines.Statement.{statement}
 use Rattle.summing.proofs.read_lines.Tie as tie
 
