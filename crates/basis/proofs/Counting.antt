@@ -1,6 +1,6 @@
 -- Laws of counting up, of `any`, of sums over a list. Assumes nothing.
 use mathlib.Core.Bool.{Bool, true, false, _||_}
-use mathlib.Core.List.{List, [], _∷_, _++_, map}
+use mathlib.Core.List.{List, [], _∷_, _++_, map, map-id}
 use mathlib.Core.Path.{_≡_, refl, sym, ap, _∙_}
 use Prim.Native.Nat.{ℕ, zero, suc, _+_, _*_, _≤_, _<_, zero-le, suc-le-suc}
 use native.Mathlib.Decide.{decLt}
@@ -41,6 +41,9 @@ getD-counted f d (suc n) j (suc i) l = getD-counted f d n (j + 1) i (le-of-suc-l
 
 pub at-counted : {A : Type 0} (f : ℕ → A) (d : A) (n i : ℕ) → i < n → getD (map f (countUp 0 n)) i d ≡ f i
 at-counted f d n i l = getD-counted f d n 0 i l ∙ ap f (zero-add i)
+
+pub getD-countUp : (d n j i : ℕ) → i < n → getD (countUp j n) i d ≡ j + i
+getD-countUp d n j i l = ap (λ (ks : List ℕ). getD ks i d) (sym (map-id (countUp j n))) ∙ getD-counted (λ k. k) d n j i l
 
 -- counting up goes on where it stopped
 pub counted-append : {A : Type 0} (f : ℕ → A) (x p q : ℕ) → map f (countUp x (p + q)) ≡ map f (countUp x p) ++ map f (countUp (x + p) q)

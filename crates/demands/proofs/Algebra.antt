@@ -22,7 +22,7 @@ use Rattle.demands.specs.Refusals.{NoReport, combinationRows}
 use Rattle.demands.specs.Trees.{wrote, Accepted}
 use Rattle.demands.specs.Demand3.{GoodReport}
 use Rattle.demands.specs.Algebra.{Algebra}
-use Rattle.demands.proofs.Order.{ascending-distinct, ascending-sorted, sorted-perm}
+use Rattle.demands.proofs.Order.{ascending-once}
 use Rattle.demands.proofs.Exactly.{Decides, first-decides}
 use Rattle.demands.proofs.Reports.{year-back, entries-back, report-bytes}
 use Rattle.demands.proofs.ReportCalls.{combination-decides, combination-passed, both-reportable}
@@ -64,11 +64,6 @@ module _ (one other : List ℕ) (g : GoodReport one) (h : GoodReport other) (buf
       & (λ n p. rw (add-comm (entryCount one) (entryCount other)) (λ r. r, λ r. r))
       & (λ n p. rw (add-comm (entryCount one) (entryCount other)) (λ r. r, λ r. r))
       & tt
-
--- two lists in order that are dealt of one another are one
-in-order-once : {y z : ℕ} (xs zs : List Entry) → Reportable y xs → Reportable z zs → List·Permᴰ xs zs → xs ≡ zs
-in-order-once xs zs v w d =
-    sym (ascending-sorted entryNumber 0 xs (v .order)) ∙ sorted-perm entryNumber d (ascending-distinct entryNumber 0 xs (v .order)) ∙ ascending-sorted entryNumber 0 zs (w .order)
 
 both-dealt : (one other : List ℕ) → List·Permᴰ (bothEntries one other) (entriesOf one ++ entriesOf other)
 unfolding bothEntries inOrder
@@ -116,7 +111,7 @@ commutes one other buffer g h =
     let d =
     List·Permᴰ·trans (both-dealt one other)
     (List·Permᴰ·trans (List·Permᴰ·append-comm (entriesOf one) (entriesOf other)) (Permᴰ·symm (both-dealt other one))) in
-    ap₂ reportBytes (t .sameYear) (in-order-once (bothEntries one other) (bothEntries other one) (t .makes) (u .makes) d))
+    ap₂ reportBytes (t .sameYear) (ascending-once entryNumber 0 0 (bothEntries one other) (bothEntries other one) (t .makes .order) (u .makes .order) d))
 
 -- what an accepted combination writes, and reads as
 module _ (one other buffer : List ℕ) (h : Bytes one) (g : Bytes other) (a : Accepted (combined one other buffer)) where
@@ -157,6 +152,6 @@ algebra =
           (Permᴰ·append-left (entriesOf a) (both-dealt b c))) in
           wrote-is l c q hl hc abc
           ∙ ap₂ reportBytes (wrote-year a b p ha hb ab)
-          (in-order-once (bothEntries l c) (bothEntries a m) (goes l c q hl hc abc .makes) (goes a m s ha hm a-bc .makes) (List·Permᴰ·trans left (Permᴰ·symm right)))
+          (ascending-once entryNumber 0 0 (bothEntries l c) (bothEntries a m) (goes l c q hl hc abc .makes .order) (goes a m s ha hm a-bc .makes .order) (List·Permᴰ·trans left (Permᴰ·symm right)))
           ∙ sym (wrote-is a m s ha hm a-bc);
     }

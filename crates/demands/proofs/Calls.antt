@@ -8,7 +8,7 @@ use native.Mathlib.Omega.{arith}
 use lib.Dec.{eqb}
 use lib.ListN.{length, getD, drop, replicate, length-replicate}
 use lib.Seq.{take-append-seam}
-use borrow.Author.Tests.{eqb-true, ne-eqb, not-false}
+use borrow.Author.Tests.{eqb-true, not-false}
 use Rattle.basis.specs.declared.Answer.{Answer}
 use Rattle.basis.specs.declared.Verdict.{Verdict}
 use Rattle.basis.specs.declared.Verdict.the-variants.{Passes, Refuses}
@@ -18,13 +18,13 @@ use Rattle.basis.specs.Answers.{firstRefusal, Outcome, settled}
 use Rattle.basis.proofs.Answers.{each-passes, passed-append, passed-if}
 use Rattle.basis.proofs.Counting.{any-some, getD-either}
 use Rattle.meaning.specs.Report.{Entry, reportYear, entriesOf}
-use Rattle.meaning.specs.Text.{refusedLine}
 use Rattle.meaning.specs.Calls.{written, formTest, yearTest, sharedTest, countTest, absentTest, calculated, combined, removed, text, bothEntries, numbered, calculationTests, calculatedReport, combinationTests, combinedReport, removalTests, removedReport}
 use Rattle.meaning.specs.Programs.{front, said, textOutput, output}
 use Rattle.meaning.proofs.Laws.{entries-of-both}
+use Rattle.meaning.proofs.Programs.{said-made, said-refused}
 use Rattle.demands.specs.Fields.{sourcesIn}
 use Rattle.demands.specs.Valid.{entryNumber, noEntry, Reportable}
-use Rattle.demands.specs.Text.{IsText, printed}
+use Rattle.demands.specs.Text.{IsText, printed, RefusalLine}
 use Rattle.demands.specs.Exactly.{Row, FirstOf}
 use Rattle.demands.specs.Refusals.{NoReport, roomRow, sourceRows, calculationRows, combinationRows, removalRows, textRows}
 use Rattle.demands.specs.Demand2.{ReportOfBoth, ReportWithout}
@@ -108,11 +108,8 @@ module _ (report : List ℕ) (number : ℕ) (h : Bytes report) where
 front-made : {Made : List ℕ → Type 0} {buffer : List ℕ} {o : Outcome} (l : Leaves Made buffer o) → front o ≡ l .bytes
 front-made {buffer = buffer} l = rw (l .answers, l .left) (take-append-seam (l .bytes) (drop (length (l .bytes)) buffer))
 
-made-said : (a : Answer) (made : List ℕ) → a .number ≡ 0 → said a made ≡ made
-made-said a made e = rw e
-
-refused-said : (a : Answer) (made : List ℕ) (n p : ℕ) → n ≢ 0 → a ≡ record { number = n; place = p; length = 0 } → said a made ≡ refusedLine n p
-refused-said a made n p z e = rw (e, ne-eqb n 0 z)
+refused-line : (a : Answer) (made : List ℕ) (n p : ℕ) → n ≢ 0 → a ≡ record { number = n; place = p; length = 0 } → RefusalLine n p (said a made)
+refused-line a made n p z e = rw e (rw (said-refused (record { number = n; place = p; length = 0 }) made z) (refusal-line n p))
 
 short-text : (report t : List ℕ) → IsText report t → length t ≤ 38994
 short-text report t (y, es, r, l) =
@@ -126,11 +123,11 @@ show report room h l =
     record {
       refused = λ n.
           let e = p .exactly .refused 9 1 (omega arith) .1 (inl (refl, refl, n)) in
-          rw (refused-said (o .answer) (front o) 9 1 (omega arith) e) (refusal-line 9 1);
+          refused-line (o .answer) (front o) 9 1 (omega arith) e;
       shown = λ f.
           let z = p .exactly .accepted .1 (none f) in
           let m = p .leaves z in
-          rw (made-said (o .answer) (front o) z ∙ front-made m) (m .made);
+          rw (said-made (o .answer) (front o) z ∙ front-made m) (m .made);
     }
   where
     none : (NoReport report → ⊥) → (n p : ℕ) → FirstOf (textRows report (length room)) n p → ⊥
@@ -145,7 +142,7 @@ first-append (row ∷ rows) more n p (inr r) = inr (r .0, first-append rows more
 
 module _ (register : List ℕ) (h : Bytes register) where
   -- where no row of 1 to 7 refuses, the tests 1 to 7 pass
-  pub rows-passed : ((n p : ℕ) → FirstOf (sourceRows register) n p → ⊥) → firstRefusal (calculationTests register) ≡ Passes
+  rows-passed : ((n p : ℕ) → FirstOf (sourceRows register) n p → ⊥) → firstRefusal (calculationTests register) ≡ Passes
   rows-passed f = by (firstRefusal (calculationTests register)) refl
     where
       by : (v : Verdict) → firstRefusal (calculationTests register) ≡ v → v ≡ Passes
@@ -162,14 +159,14 @@ module _ (register : List ℕ) (h : Bytes register) where
             let f = first-append (sourceRows register) (roomRow (sourcesIn register) (length report) ∷ []) n p r in
             let z = first-number calculationNumbers _ (calculation-numbered register h report) n p f in
             let e = calculation register h report .exactly .refused n p z .1 f in
-            rw (refused-said (o .answer) (textOutput (front o) room) n p z e) (refusal-line n p);
+            refused-line (o .answer) (textOutput (front o) room) n p z e;
         shown = λ f.
             let s = sources-passed register h (rows-passed f) in
             let e = accepting register h report (s .0) (s .1) (omega (arith, s .0 .laid .sources, length-replicate {A = ℕ} 20537 0)) in
             let z : o .answer .number ≡ 0 = ap (λ (v : Verdict). settled v (calculatedReport register) report .answer .number) e in
             let m = calculation register h report .leaves z in
             let t = show (m .bytes) room (m .made .isReport .bytes) l .shown (λ n. n _ _ (m .made .isReport)) in
-            let said-text = made-said (o .answer) (textOutput (front o) room) z ∙ ap (λ (b : List ℕ). textOutput b room) (front-made m) in
+            let said-text = said-made (o .answer) (textOutput (front o) room) z ∙ ap (λ (b : List ℕ). textOutput b room) (front-made m) in
             (m .bytes, m .made, subst (IsText (m .bytes)) (sym said-text) t);
       }
 

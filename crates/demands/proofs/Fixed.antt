@@ -18,30 +18,28 @@ use Rattle.basis.specs.Bytes.{Bytes}
 use Rattle.basis.specs.Lists.{Each, insertBy, sortedBy, without}
 use Rattle.basis.specs.Answers.{firstRefusal}
 use Rattle.basis.proofs.Answers.{coincide, coincide-part}
-use Rattle.basis.proofs.Bools.{clash}
 use Rattle.meaning.specs.declared.RawLine.{RawLine}
 use Rattle.meaning.specs.declared.Part.{Part}
 use Rattle.meaning.specs.declared.Found.{Found}
 use Rattle.meaning.specs.Register.{Source}
-use Rattle.meaning.specs.Report.{Entry, reportBytes, reportYear, entriesOf, wellFormed}
-use Rattle.meaning.specs.Calls.{numbered, calculationTests}
+use Rattle.meaning.specs.Report.{Entry, reportBytes, reportYear}
+use Rattle.meaning.specs.Calls.{formTest, numbered, calculationTests}
 use Rattle.meaning.proofs.Sources.{noSource}
 use Rattle.demands.specs.Table.{CO2, CH4, N2O, FitAll, Nearest}
 use Rattle.demands.specs.Fields.{yearIn}
 use Rattle.demands.specs.Valid.{massOf, entryNumber, IsReport}
 use Rattle.demands.specs.Text.{IsText, RefusalLine, AcceptedLine, SaysAnswer}
-use Rattle.demands.specs.Exactly.{Row, FirstOf, Exactly}
+use Rattle.demands.specs.Exactly.{Row, at, FirstOf, Exactly}
 use Rattle.demands.specs.Refusals.{NoReport, sourceRows, checkRows}
 use Rattle.demands.specs.Demand1.{FromTable}
 use Rattle.demands.specs.Demand2.{Defined, DefinedAll, States, Stated, ReportOf, ReportOfBoth, ReportWithout, Refused, Numbered, Absent, IsName, partOf}
 use Rattle.demands.specs.Calls.{Writes, Checks, Finds, FindsOfTwo, IsPartOf, HandsBack, HandsBackEither, SaysRegister, SaysReport}
 use Rattle.demands.specs.Fixed.{Once, Fixed}
 use Rattle.demands.proofs.Figures.{three-masses}
-use Rattle.demands.proofs.Order.{sorted-perm, distinct-perm, ascending-distinct, ascending-sorted}
+use Rattle.demands.proofs.Order.{sorted-perm, distinct-perm, ascending-distinct, ascending-sorted, ascending-once}
 use Rattle.demands.proofs.Exactly.{Decides, first-decides, passes-nowhere, among-positive}
-use Rattle.demands.proofs.Reports.{report-right}
 use Rattle.demands.proofs.Holds.{written-again, entries-held}
-use Rattle.demands.proofs.ReportTests.{formed-report}
+use Rattle.demands.proofs.ReportTests.{form-decides, nowhere-at}
 use Rattle.demands.proofs.ReportCalls.{without-absent}
 use Rattle.demands.proofs.Calculated.{sources-decide}
 use Rattle.demands.proofs.Tabled.{tabled}
@@ -93,10 +91,7 @@ same-report b c y es fs r s e = sym (written-again b y es r) ∙ ap (reportBytes
 report-once : (b c : List ℕ) (y : ℕ) (es fs xs : List Entry) → IsReport b y es → IsReport c y fs → Perm es xs → Perm fs xs → b ≡ c
 report-once b c y es fs xs r s p q =
     ∥∥₁-elim p (List·isSet ℕ-set b c) (λ d. ∥∥₁-elim q (List·isSet ℕ-set b c) (λ f.
-    same-report b c y es fs r s
-    (sym (ascending-sorted entryNumber 0 es (r .makes .order))
-    ∙ sorted-perm entryNumber (List·Permᴰ·trans d (Permᴰ·symm f)) (ascending-distinct entryNumber 0 es (r .makes .order))
-    ∙ ascending-sorted entryNumber 0 fs (s .makes .order))))
+    same-report b c y es fs r s (ascending-once entryNumber 0 0 es fs (r .makes .order) (s .makes .order) (List·Permᴰ·trans d (Permᴰ·symm f)))))
 
 -- one entry of a source
 rows-once : (m p : ℕ) (rows others : List ℕ) (ls : List RawLine) → FitAll m p rows ls → FitAll m p others ls → rows ≡ others
@@ -292,15 +287,14 @@ says-answer-once a t u x y = by (ℕ-discrete (a .number) 0)
     by (no n) = refusal-once (a .number) (a .place) t u (x .refused n) (y .refused n)
 
 says-report-once : (report : List ℕ) → Bytes report → Once (SaysReport report)
-says-report-once report h t u x y = by (wellFormed report) refl
+says-report-once report h t u x y = by (formTest report 1) refl
   where
-    by : (c : Bool) → wellFormed report ≡ c → t ≡ u
-    by true e =
-        let r : NoReport report → ⊥ = λ n. n (reportYear report) (entriesOf report) (formed-report report h e) in
-        text-once report t u (x .shown r) (y .shown r)
-    by false e =
-        let r : NoReport report = λ year es r. clash (ap wellFormed (sym (written-again report year es r)) ∙ report-right year es (r .makes)) e in
-        refusal-once 9 1 t u (x .refused r) (y .refused r)
+    decides : Decides (formTest report 1) (at 9 1 (NoReport report))
+    decides = form-decides report 1 h
+
+    by : (v : Verdict) → formTest report 1 ≡ v → t ≡ u
+    by (Refuses n p) e = let r = decides n p .0 e .2 in refusal-once 9 1 t u (x .refused r) (y .refused r)
+    by Passes e = let r = nowhere-at (passes-nowhere (formTest report 1) (at 9 1 (NoReport report)) decides e) in text-once report t u (x .shown r) (y .shown r)
 
 says-register-once : (register : List ℕ) → Bytes register → Once (SaysRegister register)
 says-register-once register h t u x y = by (firstRefusal (calculationTests register)) refl

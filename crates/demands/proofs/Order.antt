@@ -74,6 +74,10 @@ module _ {A : Type 0} (key : A → ℕ) where
   ascending-sorted n [] a = refl
   ascending-sorted n (x ∷ xs) a = rw (ascending-sorted (key x) xs (a .1)) (insert-front x xs (a .1))
 
+  -- two lists that ascend and are dealt of one another are one
+  pub ascending-once : (m n : ℕ) (xs ys : List A) → Ascending key m xs → Ascending key n ys → List·Permᴰ xs ys → xs ≡ ys
+  ascending-once m n xs ys a b d = sym (ascending-sorted m xs a) ∙ sorted-perm d (ascending-distinct m xs a) ∙ ascending-sorted n ys b
+
   insert-ascending : (n : ℕ) (x : A) (xs : List A) → n < key x → Each (λ y. key x ≢ key y) xs → Ascending key n xs → Ascending key n (insertBy key x xs)
   unfolding insertBy
   insert-ascending n x [] l d a = (l, tt)

@@ -5,7 +5,6 @@ use mathlib.Core.Path.{_≡_, refl, sym, ap, ap₂, subst, _∙_}
 use Prim.Native.Nat.{ℕ, _<_}
 use native.Mathlib.Omega.{arith}
 use lib.ListN.{length}
-use borrow.Author.Tests.{eq-eqb, ne-eqb}
 use Rattle.basis.specs.declared.Answer.{Answer}
 use Rattle.basis.specs.declared.Verdict.the-variants.{Passes}
 use Rattle.basis.specs.Bytes.{Bytes}
@@ -16,6 +15,7 @@ use Rattle.meaning.specs.Report.{Entry, figures, figure, totals, reportYear, en
 use Rattle.meaning.specs.Text.{decimal, textLine, reportText, refusedLine, acceptedLine}
 use Rattle.meaning.specs.Calls.{roomTest, formTest, text}
 use Rattle.meaning.specs.Programs.{answerLine}
+use Rattle.meaning.proofs.Programs.{said-made, said-refused}
 use Rattle.demands.specs.Table.{CO2, CH4, N2O}
 use Rattle.demands.specs.Valid.{massOf, equivalentOf, Entered}
 use Rattle.demands.specs.Text.{Line, Lines, printed, IsText, RefusalLine, AcceptedLine, SaysAnswer, Texts}
@@ -135,8 +135,8 @@ accepted-line size = (textLine (size ∷ []), line-written (size ∷ []), refl)
 answer-line : (a : Answer) → SaysAnswer a (answerLine a)
 answer-line a =
     record {
-      accepted = λ e. rw (eq-eqb (a .number) 0 e) (accepted-line (a .length));
-      refused = λ n. rw (ne-eqb (a .number) 0 n) (refusal-line (a .number) (a .place));
+      accepted = λ e. rw (said-made a (acceptedLine (a .length)) e) (accepted-line (a .length));
+      refused = λ n. rw (said-refused a (acceptedLine (a .length)) n) (refusal-line (a .number) (a .place));
     }
 
 pub texts : Texts

@@ -2,15 +2,16 @@
 use mathlib.Core.List.{List, [], _∷_, flatten, foldr}
 use mathlib.Core.Path.{_≡_, refl, sym, ap, ap₂, _∙_}
 use Prim.Native.Nat.{ℕ, zero, suc, _+_, _*_, _^_, _<_}
-use native.Mathlib.Decide.{decLt}
 use native.Mathlib.Nat.{mul-comm}
 use native.Mathlib.Numerals.{add-one}
 use native.Mathlib.Omega.{arith}
-use lib.ListN.{length, getD, List·getD-eq-default}
-use Rattle.basis.specs.Bytes.{numberOf, numberAt, Bytes}
-use Rattle.basis.specs.Lists.{sum, countUp, joined}
+use lib.ListN.{getD}
+use Rattle.basis.specs.Bytes.{numberOf, numberAt}
+use Rattle.basis.specs.Lists.{sum, joined}
 use Rattle.basis.proofs.Bytes.{numberAt-parts}
+use Rattle.basis.proofs.Counting.{getD-countUp}
 use Rattle.basis.proofs.Lists.{length-countUp, each-at, at-each}
+use Rattle.basis.proofs.Rows.{each-bytes}
 use Rattle.demands.specs.Words.{sumBelow, Words}
 
 one-byte : (bs : List ℕ) (at : ℕ) → numberAt 1 bs at ≡ getD bs at 0
@@ -28,23 +29,10 @@ lowest-first (suc k) bs at =
     ∙ numberAt-parts k 1 bs at
     ∙ ap₂ _+_ (lowest-first k bs at) (ap (λ (n : ℕ). 256 ^ k * n) (one-byte bs (at + k)) ∙ mul-comm (256 ^ k) (getD bs (at + k) 0))
 
-each-byte : (bs : List ℕ) → ((i : ℕ) → i < length bs → getD bs i 0 < 256) → Bytes bs
-each-byte bs h i = by (decLt i (length bs))
-  where
-    by : Dec (i < length bs) → getD bs i 0 < 256
-    by (yes l) = h i l
-    by (no n) = rw (List·getD-eq-default bs 0 {n = i} (omega arith)) (omega arith)
-
 all-added : (ns : List ℕ) → sum ns ≡ foldr _+_ 0 ns
 unfolding sum
 all-added [] = refl
 all-added (n ∷ ns) = ap (n +_) (all-added ns)
-
-counted-at : (i k j : ℕ) → j < k → getD (countUp i k) j 0 ≡ i + j
-unfolding countUp
-counted-at i zero j l = absurd (omega arith)
-counted-at i (suc k) zero l = omega arith
-counted-at i (suc k) (suc j) l = counted-at (i + 1) k j (omega arith) ∙ omega arith
 
 one-list : (A : Type 0) (ls : List (List A)) → joined ls ≡ flatten ls
 unfolding joined flatten
@@ -55,9 +43,9 @@ pub words : Words
 words =
     record {
       numbers = lowest-first;
-      bytes = λ bs. (λ h i l. h i, each-byte bs);
+      bytes = λ bs. (λ h i l. h i, λ h. each-bytes bs (at-each (λ b. b < 256) bs 0 h));
       sums = all-added;
-      counts = λ i k. (length-countUp i k, counted-at i k);
+      counts = λ i k. (length-countUp i k, λ j l. getD-countUp 0 k i j l);
       lists = one-list;
       every = λ A P xs x. (each-at P xs x, at-each P xs x);
       gives = λ o a bs. (λ g. (g .answers, g .leaves), λ e. record { answers = e .0; leaves = e .1 });

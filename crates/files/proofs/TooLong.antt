@@ -1,6 +1,6 @@
 -- Two inputs that are longer than a report can be are answered alike by every call on reports, and two that are longer than a register can be by
 -- the lookups. Assumes nothing.
-use mathlib.Core.Bool.{Bool, true, false, _&&_}
+use mathlib.Core.Bool.{Bool, true, false, and-false}
 use mathlib.Core.List.{List, [], _∷_}
 use mathlib.Core.Path.{_≡_, refl}
 use Prim.Native.Nat.{ℕ, _≤_}
@@ -56,10 +56,6 @@ module _ (b c : List ℕ) (l : 20537 ≤ length b) (m : 20537 ≤ length c) wher
 
   pub second-alike : (first report : List ℕ) → combined first b report ≡ combined first c report
   second-alike first report = second-by first report (wellFormed first) refl
-
-and-false : (a : Bool) → a && false ≡ false
-and-false true = refl
-and-false false = refl
 
 module _ (b c : List ℕ) (l : 45089 ≤ length b) (m : 45089 ≤ length c) (number : ℕ) where
   pub found-alike : found b number ≡ found c number

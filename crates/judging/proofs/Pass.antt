@@ -1,6 +1,6 @@
 -- One pass over the sources of a register that has passed: tests 5 to 7, and the figures kept. Assumes nothing.
 use mathlib.Core.Bool.{false}
-use mathlib.Core.List.{List, [], _∷_, _++_, map, map-id, append-nil}
+use mathlib.Core.List.{List, [], _∷_, _++_, map, append-nil}
 use mathlib.Core.Path.{_≡_, refl, sym, ap, _∙_}
 use Prim.Native.Nat.{ℕ, zero, suc, _+_, _*_, _-_, _≤_, _<_}
 use native.Mathlib.Decide.{decLt}
@@ -21,7 +21,7 @@ use Rattle.basis.proofs.Answers.{never, passed-at-first, passed-then, refused-t
 use Rattle.basis.proofs.Bools.{or-false}
 use Rattle.basis.proofs.ByIndex.{same-by-index, joined-last}
 use Rattle.basis.proofs.Bytes.{splice-none, read-inside, length-written, written-then}
-use Rattle.basis.proofs.Counting.{getD-either, at-counted, counted-append}
+use Rattle.basis.proofs.Counting.{getD-either, getD-countUp, counted-append}
 use Rattle.basis.proofs.First.{first-is, first-end}
 use Rattle.basis.proofs.Lists.{length-countUp, at-each}
 use Rattle.basis.proofs.Rows.{row-at, length-rows}
@@ -143,7 +143,7 @@ unfolding keptTo
 kept-at b n i l =
     let ks = countUp 0 n in
     let m : i < length ks = rw (length-countUp 0 n) l in
-    let g : getD ks i 0 ≡ i = ap (λ (xs : List ℕ). getD xs i 0) (sym (map-id ks)) ∙ at-counted (λ k. k) 0 n i l in
+    let g : getD ks i 0 ≡ i = getD-countUp 0 n 0 i l ∙ zero-add i in
     let r = row-at (λ k. keptOf (sourceAt b k)) (λ _. 0) figureCount (λ _. Unit {0}) (λ k _. length-kept (sourceAt b k)) 0 [] ks i m (any-of ks) in
     rw (rw (append-nil (joined (map (λ k. keptOf (sourceAt b k)) ks))) at r) (take-at (keptOf (sourceAt b (getD ks i 0))) _ figureCount (length-kept (sourceAt b (getD ks i 0))) ∙ rw g)
 

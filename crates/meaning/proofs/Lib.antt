@@ -10,3 +10,4 @@ pub mod Lines
 pub mod Lengths
 pub mod Totals
 pub mod Decimals
+pub mod Programs

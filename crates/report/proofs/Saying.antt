@@ -10,7 +10,8 @@ use Rattle.meaning.specs.Text.{refusedLine}
 use Rattle.meaning.specs.Calls.{calculationTests, calculatedReport, calculated}
 use Rattle.meaning.specs.Programs.{front, said, textOutput, output}
 use Rattle.digits.specs.Digits.{Fronted}
-use Rattle.saying.proofs.Saying.{written-front, said-made, said-refused}
+use Rattle.meaning.proofs.Programs.{said-made, said-refused}
+use Rattle.saying.proofs.Saying.{written-front}
 use Rattle.files.proofs.Longer.{calculated-same}
 
 module _ (register : List ℕ) {a : Answer} {left : List ℕ} (g : Gives (calculated register (replicate 20537 0)) a left) where

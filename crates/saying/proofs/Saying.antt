@@ -3,7 +3,7 @@ use mathlib.Core.List.{List, [], _∷_, _++_}
 use mathlib.Core.Path.{_≡_, refl, sym, ap, _∙_}
 use Prim.Native.Nat.{ℕ, _≤_}
 use native.Mathlib.Omega.{arith}
-use borrow.Author.Tests.{ltb-false, ne-eqb}
+use borrow.Author.Tests.{ltb-false}
 use lib.Dec.{ltb}
 use lib.ListN.{length, take}
 use Rattle.basis.specs.declared.Answer.{Answer}
@@ -16,6 +16,7 @@ use Rattle.basis.proofs.Bytes.{splice-none}
 use Rattle.meaning.specs.Text.{refusedLine, acceptedLine}
 use Rattle.meaning.specs.Calls.{roomTest, written, formTest, text}
 use Rattle.meaning.specs.Programs.{said, answerLine, textOutput}
+use Rattle.meaning.proofs.Programs.{said-made, said-refused}
 use Rattle.digits.specs.Digits.{Fronted}
 use Rattle.digits.proofs.Fields.{front-is, fronted}
 use Rattle.texts.specs.Rows.{textOf}
@@ -49,13 +50,6 @@ module _ (tests : List Verdict) (made buffer : List ℕ) {a : Answer} {left : Li
   written-kept : (a .number ≡ 0 → ⊥) → left ≡ buffer
   unfolding written
   written-kept f = settled-kept (firstRefusal (tests ++ (roomTest made buffer ∷ []))) made buffer g f
-
--- what is said of an answer goes by its number
-pub said-made : (a : Answer) (made : List ℕ) → a .number ≡ 0 → said a made ≡ made
-said-made a made e = rw e
-
-pub said-refused : (a : Answer) (made : List ℕ) → (a .number ≡ 0 → ⊥) → said a made ≡ refusedLine (a .number) (a .place)
-said-refused a made f = rw (ne-eqb (a .number) 0 f)
 
 module _ (report room : List ℕ) {a : Answer} {left : List ℕ} (g : Gives (text report room) a left) where
   text-is : textOutput report room ≡ said a (take (a .length) left)

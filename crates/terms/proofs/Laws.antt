@@ -57,5 +57,20 @@ kind-weighs (KilnDust share factor calcined) h = co2-weighs true (h .0) (omega a
 kind-weighs (OtherCarbon carbon) h = carbon-weighs false h (omega arith)
 kind-weighs (NitricAcid factor) h = simp mul-one at (gas-weighs {gas = nitrousOxide} {content = factor} {factor = 1} (omega arith) (omega arith) (omega arith))
 
-pub term-weighs : (k : Kind) {t : Term} → KindFits k → t ≡ termOf k → Weighs (λ q. contribution q k) t
-term-weighs k h e = rw e (kind-weighs k h)
+module _ (k : Kind) {t : Term} (h : KindFits k) (e : t ≡ termOf k) where
+  pub term-weighs : Weighs (λ q. contribution q k) t
+  term-weighs = rw e (kind-weighs k h)
+
+  pub term-gas : t .gas < gasCount
+  term-gas = term-weighs .gas
+
+  pub term-content : t .content ≤ largestContent
+  term-content = term-weighs .content
+
+  pub term-factor : t .factor ≤ getD mostFactors (t .gas) 0
+  term-factor = term-weighs .factor
+
+  pub term-only : t .takes ≡ true → t .gas ≡ carbonDioxide
+  term-only = term-weighs .only
+
+pub ruleset term-ranges = (term-gas, term-content, term-factor, term-only)
