@@ -65,7 +65,13 @@ pub refused-exactly : (tests : List Verdict) (number place : ℕ)
     → firstRefusal tests ≡ Refuses number place ↔ ((i : ℕ) × FirstToRefuse tests number place i)
 refused-exactly tests number place = (refused-only tests number place, λ r. refused-by tests number place (r .0) (r .1))
 
--- tests behind tests: the later ones are heard where the earlier ones pass
+-- a single test is answered as it finds
+pub single-test : (v : Verdict) → firstRefusal (v ∷ []) ≡ v
+unfolding firstRefusal
+single-test Passes = refl
+single-test (Refuses n p) = refl
+
+-- tests behind tests: the later ones count where the earlier ones pass
 pub passed-then : (ts us : List Verdict) → firstRefusal ts ≡ Passes → firstRefusal (ts ++ us) ≡ firstRefusal us
 unfolding firstRefusal
 passed-then [] us e = refl

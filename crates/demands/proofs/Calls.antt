@@ -19,7 +19,7 @@ use Rattle.basis.proofs.Answers.{each-passes, passed-append, passed-if}
 use Rattle.basis.proofs.Counting.{any-some, getD-either}
 use Rattle.meaning.specs.Report.{Entry, reportYear, entriesOf}
 use Rattle.meaning.specs.Calls.{written, formTest, yearTest, sharedTest, countTest, absentTest, calculated, combined, removed, text, bothEntries, numbered, calculationTests, calculatedReport, combinationTests, combinedReport, removalTests, removedReport}
-use Rattle.meaning.specs.Programs.{front, said, textOutput, output}
+use Rattle.meaning.specs.Programs.{front, said, textOutput, reportRoom, output}
 use Rattle.meaning.proofs.Laws.{entries-of-both}
 use Rattle.meaning.proofs.Programs.{said-made, said-refused}
 use Rattle.demands.specs.Fields.{sourcesIn}
@@ -152,7 +152,7 @@ module _ (register : List ℕ) (h : Bytes register) where
   program : (room : List ℕ) → 38994 ≤ length room → SaysRegister register (output register room)
   unfolding output calculated written settled
   program room l =
-      let report : List ℕ = replicate 20537 0 in
+      let report : List ℕ = replicate reportRoom 0 in
       let o = calculated register report in
       record {
         refused = λ n p r.
@@ -162,7 +162,7 @@ module _ (register : List ℕ) (h : Bytes register) where
             refused-line (o .answer) (textOutput (front o) room) n p z e;
         shown = λ f.
             let s = sources-passed register h (rows-passed f) in
-            let e = accepting register h report (s .0) (s .1) (omega (arith, s .0 .laid .sources, length-replicate {A = ℕ} 20537 0)) in
+            let e = accepting register h report (s .0) (s .1) (omega (arith, s .0 .laid .sources, length-replicate {A = ℕ} reportRoom 0)) in
             let z : o .answer .number ≡ 0 = ap (λ (v : Verdict). settled v (calculatedReport register) report .answer .number) e in
             let m = calculation register h report .leaves z in
             let t = show (m .bytes) room (m .made .isReport .bytes) l .shown (λ n. n _ _ (m .made .isReport)) in

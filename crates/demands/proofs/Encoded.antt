@@ -127,7 +127,7 @@ module _ (b : List ℕ) (j line byte : ℕ) (s : Source) (ss : List Source) (h :
         room = room-next line byte s ss v;
       }
 
--- what is read of the sources from entry j on
+-- what is read from the sources, from entry j on
 record Told (b : List ℕ) (j : ℕ) (ss : List Source) : Type 0 where
   sources : map (sourceAt b) (countUp j (length ss)) ≡ ss
   placed : any (misplaced b) (countUp j (length ss)) ≡ false

@@ -185,7 +185,7 @@ module _ (b : List ℕ) (h : Bytes b) (v : LaidRight b) where
       )
       (take-all (wholeLength n m t) b (omega (arith, long)))
 
-  -- its numbers fit, for they are read of bytes
+  -- its numbers fit, for they are read from bytes
   line-fits : (j : ℕ) → LineFits (lineAt b j)
   line-fits j =
       let p = linesAt (sourceCount b) + lineLength * j in

@@ -67,7 +67,7 @@ defined s c =
         let f = rows-found (s .method) (s .parameter) (s .lines) (c .good) .1 in
         rw (none-taken (s .method) (s .parameter) (suc gas) rows (s .lines) (omega arith) f) (omega arith)
 
--- a number that is read of eight bytes is below 2^64
+-- a number that is read from eight bytes is below 2^64
 read-fits : {b : List ℕ} {year : ℕ} {es : List Entry} (r : IsReport b year es) (at n : ℕ) → numberAt 8 b at ≡ n → n < 2 ^ 64
 read-fits {b} r at n e = rw (← e) (numberAt-fits 8 b at (r .bytes))
 

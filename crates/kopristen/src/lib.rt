@@ -11,7 +11,7 @@ use meaning::Part;
 pub extern "C" fn kopristen_calculate(register: &[u8], report: &mut [u8]) -> Answer
     ensures { λ r. ⌜ Gives (calculated (now (register .entry)) (now (report .entry))) r (now (report .exit)) ⌝ }
 {
-    calculating::calculate(register, report)
+    calculation::calculate(register, report)
 }
 
 // "Combining writes the well-formed report of all entries of both"
@@ -19,7 +19,7 @@ pub extern "C" fn kopristen_calculate(register: &[u8], report: &mut [u8]) -> Ans
 pub extern "C" fn kopristen_combine(first: &[u8], second: &[u8], report: &mut [u8]) -> Answer
     ensures { λ r. ⌜ Gives (combined (now (first .entry)) (now (second .entry)) (now (report .entry))) r (now (report .exit)) ⌝ }
 {
-    combining::combine(first, second, report)
+    report_combine::combine(first, second, report)
 }
 
 // "Removal writes the report without that entry"
@@ -27,7 +27,7 @@ pub extern "C" fn kopristen_combine(first: &[u8], second: &[u8], report: &mut [u
 pub extern "C" fn kopristen_remove(report: &[u8], number: u32, result: &mut [u8]) -> Answer
     ensures { λ r. ⌜ Gives (removed (now (report .entry)) number (now (result .entry))) r (now (result .exit)) ⌝ }
 {
-    removing::remove(report, number, result)
+    report_remove::remove(report, number, result)
 }
 
 // "The report check has only 9, place 1"
@@ -35,7 +35,7 @@ pub extern "C" fn kopristen_remove(report: &[u8], number: u32, result: &mut [u8]
 pub extern "C" fn kopristen_check(report: &[u8]) -> Answer
     ensures { λ r. ⌜ r ≡ checked (now (report .entry)) ⌝ }
 {
-    reports::check(report)
+    report_check::check(report)
 }
 
 // The text of a report, as the report program writes it: 9 with place 1, then 8.
@@ -43,7 +43,7 @@ pub extern "C" fn kopristen_check(report: &[u8]) -> Answer
 pub extern "C" fn kopristen_text(report: &[u8], buffer: &mut [u8]) -> Answer
     ensures { λ r. ⌜ Gives (text (now (report .entry)) (now (buffer .entry))) r (now (buffer .exit)) ⌝ }
 {
-    texts::text(report, buffer)
+    report_text::text(report, buffer)
 }
 
 // "The name found for a number is the part of the lent register where it stands"; 0 and 0 where there is none.
@@ -51,7 +51,7 @@ pub extern "C" fn kopristen_text(report: &[u8], buffer: &mut [u8]) -> Answer
 pub extern "C" fn kopristen_name(register: &[u8], number: u32) -> Part
     ensures { λ r. ⌜ r ≡ found (now (register .entry)) number ⌝ }
 {
-    names::name_place(register, number)
+    register_name::name_place(register, number)
 }
 
 // "the name is a part of whichever register holds the number"; 1, 0 and 0 where there is none.
@@ -59,5 +59,5 @@ pub extern "C" fn kopristen_name(register: &[u8], number: u32) -> Part
 pub extern "C" fn kopristen_name_of_two(plant: &[u8], contractor: &[u8], number: u32) -> Found
     ensures { λ r. ⌜ r ≡ foundOfTwo (now (plant .entry)) (now (contractor .entry)) number ⌝ }
 {
-    names::name_place_of_two(plant, contractor, number)
+    register_name::name_place_of_two(plant, contractor, number)
 }

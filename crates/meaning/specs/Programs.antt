@@ -1,11 +1,13 @@
 -- Document 01, "The report program", and the programs beside it: what each says. Assumes nothing.
 use mathlib.Core.Bool.{cond}
 use mathlib.Core.List.{List}
-use Prim.Native.Nat.{ℕ}
+use Prim.Native.Nat.{ℕ, _+_}
 use lib.Dec.{eqb}
 use lib.ListN.{take, replicate}
 use Rattle.basis.specs.declared.Answer.{Answer}
 use Rattle.basis.specs.Answers.{Outcome}
+use Rattle.meaning.specs.Register.{mostSources}
+use Rattle.meaning.specs.Report.{reportLength}
 use Rattle.meaning.specs.Text.{refusedLine, acceptedLine}
 use Rattle.meaning.specs.Calls.{calculated, text}
 
@@ -25,6 +27,10 @@ answerLine a = said a (acceptedLine (a .length))
 unfoldable pub textOutput : List ℕ → List ℕ → List ℕ
 textOutput report room = let o = text report room in said (o .answer) (front o)
 
--- what the report program says of a register: the text of its report, which has at most 20,536 bytes, or the refusal
+-- the report program's room for a report: one byte more than the longest has
+abbrev pub reportRoom : ℕ
+reportRoom = reportLength mostSources + 1
+
+-- what the report program says of a register: the text of its report, or the refusal
 unfoldable pub output : List ℕ → List ℕ → List ℕ
-output register room = let o = calculated register (replicate 20537 0) in said (o .answer) (textOutput (front o) room)
+output register room = let o = calculated register (replicate reportRoom 0) in said (o .answer) (textOutput (front o) room)

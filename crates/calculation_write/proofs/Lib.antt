@@ -1,0 +1,4 @@
+pub mod Keyed
+pub mod Summing
+pub mod Entries
+pub mod Answered

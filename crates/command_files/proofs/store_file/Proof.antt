@@ -1,0 +1,20 @@
+use native.Mathlib.Omega.{arith}
+use lib.ListN.{length-take}
+use Rattle.command_files.proofs.Coming.{came-within, came-part}
+use Rattle.command_files.proofs.store_file.Statement.{statement}
+use Rattle.command_files.proofs.store_file.Tie as tie
+
+pub store-file-spec : {M : Type 1} → statement M
+store-file-spec =
+    tie.close
+    (tie.spec
+    (λ c κs. tt)
+    (λ c. omega arith)
+    (λ c κs. tt)
+    (λ c. omega arith)
+    (λ c. omega arith)
+    (λ c. omega arith)
+    (λ c. search came-within)
+    (λ c. search came-part)
+    (λ c κs. simp length-take (omega arith))
+    (λ c. omega arith))

@@ -1,5 +1,0 @@
-pub mod Coming
-pub mod Longer
-pub mod Names
-pub mod Settling
-pub mod TooLong

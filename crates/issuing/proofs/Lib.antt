@@ -1,4 +1,0 @@
-pub mod Keyed
-pub mod Summing
-pub mod Issuing
-pub mod Issued

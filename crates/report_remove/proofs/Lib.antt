@@ -1,0 +1,5 @@
+pub mod Between
+pub mod Parted
+pub mod Others
+pub mod Removed
+pub mod Answered

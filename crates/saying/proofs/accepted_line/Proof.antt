@@ -1,7 +1,0 @@
-use borrow.Author.Needs.{needs}
-use Rattle.saying.proofs.Lines.{accepting}
-use Rattle.saying.proofs.accepted_line.Statement.{statement}
-use Rattle.saying.proofs.accepted_line.Tie as tie
-
-pub accepted-line-spec : {M : Type 1} → statement M
-accepted-line-spec = tie.close (tie.spec (λ c. search needs) (λ c. search needs) (λ c κs. search accepting) (λ c. search accepting))
