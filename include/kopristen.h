@@ -18,6 +18,11 @@
 extern "C" {
 #endif
 
+/* Lengths in bytes: of the longest register, of a report of so many sources, and of the longest report. */
+#define KOPRISTEN_MOST_REGISTER_BYTES 45088
+#define KOPRISTEN_REPORT_BYTES(sources) (56 + 40 * (size_t)(sources))
+#define KOPRISTEN_MOST_REPORT_BYTES KOPRISTEN_REPORT_BYTES(512)
+
 /* Acceptance is number 0, place 0 and a length. A refusal has its number of document 01's table, its place and length 0. */
 struct kopristen_answer {
     uint32_t number;
@@ -39,7 +44,8 @@ struct kopristen_found {
 };
 
 /* Calculates the report of a register and writes it to the front of the buffer; bytes behind the answered length stay.
- * Refuses with 1 to 8, and then the buffer stays as it was. 56 bytes and 40 for each source are room enough; 20,536 always are. */
+ * Refuses with 1 to 8, and then the buffer stays as it was. KOPRISTEN_REPORT_BYTES of the register's sources are room enough, and
+ * KOPRISTEN_MOST_REPORT_BYTES always are. */
 struct kopristen_answer kopristen_calculate(const uint8_t *register_bytes, size_t register_length, uint8_t *report, size_t room);
 
 /* Writes the report of all entries of two reports of one year, likewise. Refuses with 9 to 12 and 8. */

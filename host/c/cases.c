@@ -7,7 +7,7 @@
 #include "kopristen.h"
 
 enum { CALCULATE = 1, COMBINE, REMOVE, CHECK, TEXT, NAME, NAME_OF_TWO };
-enum { MOST = 45089, LABEL = 44 };
+enum { MOST = KOPRISTEN_MOST_REGISTER_BYTES + 1, NUMBERS = 20, LABEL = 44 };
 
 static uint8_t first[MOST], second[MOST], buffer[MOST];
 
@@ -48,7 +48,7 @@ static void make_call(const uint8_t *header) {
     read_exactly(first, one);
     read_exactly(second, other);
     memset(buffer, header[1], sizeof buffer);
-    printf("%.*s", LABEL, (const char *)header + 20);
+    printf("%.*s", LABEL, (const char *)header + NUMBERS);
     if (entry == NAME) {
         struct kopristen_part part = kopristen_name(first, one, number);
         printf(" %" PRIu64 " %" PRIu64 "\n", part.offset, part.length);
@@ -64,7 +64,7 @@ static void make_call(const uint8_t *header) {
 }
 
 int main(void) {
-    uint8_t header[20 + LABEL];
+    uint8_t header[NUMBERS + LABEL];
     while (fread(header, 1, sizeof header, stdin) == sizeof header) {
         make_call(header);
     }

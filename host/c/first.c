@@ -4,7 +4,8 @@
 #include "kopristen.h"
 
 int main(void) {
-    static uint8_t input[45089], report[20536], text[65536];
+    /* One byte more than the longest register, so that a longer input is refused. */
+    static uint8_t input[KOPRISTEN_MOST_REGISTER_BYTES + 1], report[KOPRISTEN_MOST_REPORT_BYTES], text[65536];
     size_t length = fread(input, 1, sizeof input, stdin);
     struct kopristen_answer made = kopristen_calculate(input, length, report, sizeof report);
     if (made.number != 0) {

@@ -8,7 +8,7 @@ mod refusal;
 pub mod raw;
 pub use refusal::Refusal;
 
-/// The longest report: a header of 56 bytes and 512 entries of 40.
+/// The length of the longest report: a header and 512 entries.
 pub const MOST_REPORT_BYTES: usize = 56 + 512 * 40;
 
 /// Calculates a register's report, and answers its length.

@@ -1,7 +1,9 @@
 //! The wrapper: results, refusals with their sentences, and names as parts of what was lent.
 
 use kopristen::{calculate, check, combine, name, name_of_two, remove, text, Refusal, MOST_REPORT_BYTES};
+use reference::answers::LAST_REFUSAL;
 use reference::draft::{boiler, boilers, register};
+use reference::layout::{ENTRIES_AT, ENTRY_LENGTH, MOST_REGISTER_LENGTH, MOST_REPORT_LENGTH, MOST_SOURCES};
 
 fn calculated(numbers: &[u32]) -> Vec<u8> {
     let mut report = vec![0; MOST_REPORT_BYTES];
@@ -25,6 +27,20 @@ fn accepted_calls_answer_the_length() {
     assert!(written[..length].starts_with(b"2023 2 5862400000 0 0 5862400000\n7 1 2931200000 0 0 "));
 }
 
+/// The wrapper and the header for C state lengths of their own, which must be those of the reference.
+#[test]
+fn lengths_are_those_of_the_reference() {
+    assert_eq!(MOST_REPORT_BYTES, MOST_REPORT_LENGTH);
+    let header = include_str!("../../../include/kopristen.h");
+    for stated in [
+        format!("KOPRISTEN_MOST_REGISTER_BYTES {MOST_REGISTER_LENGTH}"),
+        format!("KOPRISTEN_REPORT_BYTES(sources) ({ENTRIES_AT} + {ENTRY_LENGTH} * (size_t)(sources))"),
+        format!("KOPRISTEN_MOST_REPORT_BYTES KOPRISTEN_REPORT_BYTES({MOST_SOURCES})"),
+    ] {
+        assert!(header.contains(&format!("#define {stated}\n")), "{stated}");
+    }
+}
+
 #[test]
 fn refusals_say_what_is_wrong() {
     let refused = calculate(&boilers(&[7, 7]).bytes(), &mut [0; 136]);
@@ -39,10 +55,11 @@ fn refusals_say_what_is_wrong() {
 
 #[test]
 fn each_refusal_has_its_own_sentence() {
-    let sentences = (1..=13).map(|number| Refusal { number, place: 3 }.to_string());
+    let sentences = (1..=LAST_REFUSAL).map(|number| Refusal { number, place: 3 }.to_string());
     let different: std::collections::BTreeSet<String> = sentences.collect();
-    assert_eq!(different.len(), 13);
+    assert_eq!(different.len(), LAST_REFUSAL as usize);
     assert!(different.iter().all(|sentence| !sentence.starts_with("refused")));
+    assert!(Refusal { number: LAST_REFUSAL + 1, place: 3 }.to_string().starts_with("refused"));
 }
 
 #[test]

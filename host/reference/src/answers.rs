@@ -1,5 +1,8 @@
 //! "Refusal numbers": what a call answers, and what it leaves in the buffer lent to it.
 
+/// The refusal table goes from 1 to this number.
+pub const LAST_REFUSAL: u32 = 13;
+
 /// A row of the refusal table that applies, and its place.
 #[derive(Clone, Copy, Debug, PartialEq, Eq)]
 pub struct Refusal {
@@ -33,7 +36,7 @@ impl Answer {
     }
 }
 
-/// Ends a call that writes: 8 is the last test of each. "A refusal writes nothing", and after acceptance "bytes after
+/// Ends a call that writes: 8 is the last test of each. "A refusal .. writes nothing", and after acceptance "bytes after
 /// that length stay".
 pub fn deliver(result: Result<Vec<u8>, Refusal>, buffer: &mut [u8]) -> Answer {
     match result.and_then(|bytes| fitting(bytes, buffer.len())) {

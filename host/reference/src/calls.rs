@@ -1,9 +1,10 @@
 //! The calls, each with its tests in document 01's order, and what the report program writes.
 
 use crate::answers::{deliver, Answer, Refusal};
+use crate::layout::MOST_SOURCES;
 use crate::masses::masses_of;
 use crate::methods::row_of;
-use crate::register::{Register, Source, MOST_SOURCES};
+use crate::register::{Register, Source};
 use crate::report::{Entry, Report};
 
 /// "Calculation tests 1, 2 by field, 3 over all sources, 4 over all, 5 over all lines, then 6 and 7 source by source
@@ -40,7 +41,8 @@ pub fn text(report: &[u8], buffer: &mut [u8]) -> Answer {
 }
 
 /// "The name found for a number is the part of the lent register where it stands": offset and length. "The answer is
-/// the empty part at the front of the register where 1 to 4 refuse it, where the number is absent."
+/// the empty part at the front of the (first) register where 1 to 4 refuse any register given, where the number is
+/// absent."
 pub fn name(register: &[u8], number: u32) -> (u64, u64) {
     let found = Register::read(register).ok();
     found.and_then(|register| register.name_place(number)).unwrap_or((0, 0))

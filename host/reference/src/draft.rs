@@ -1,7 +1,8 @@
 //! Registers written out of their parts: for tests, cases, examples and generated inputs.
 
 use crate::bytes::append;
-use crate::register::{Line, HEADER_BYTES, LINE_BYTES, SOURCE_BYTES};
+use crate::layout::{line_at, source_at, REGISTER_LAYOUT, SOURCES_AT};
+use crate::register::Line;
 
 /// A source as a plant would state it.
 #[derive(Clone, Debug, PartialEq, Eq)]
@@ -80,14 +81,14 @@ impl Draft {
     }
 
     fn header(&self, lines: usize, name_bytes: usize) -> Vec<u8> {
-        let lines_at = HEADER_BYTES + SOURCE_BYTES * self.sources.len();
-        let names_at = lines_at + LINE_BYTES * lines;
+        let lines_at = source_at(self.sources.len());
+        let names_at = line_at(self.sources.len(), lines);
         let mut bytes = b"GREG".to_vec();
-        append(&mut bytes, 2, 1);
+        append(&mut bytes, 2, REGISTER_LAYOUT);
         append(&mut bytes, 2, u64::from(self.year));
         append(&mut bytes, 2, self.sources.len() as u64);
         append(&mut bytes, 2, lines as u64);
-        for number in [name_bytes, HEADER_BYTES, lines_at, names_at, names_at + name_bytes] {
+        for number in [name_bytes, SOURCES_AT, lines_at, names_at, names_at + name_bytes] {
             append(&mut bytes, 4, number as u64);
         }
         bytes
@@ -124,13 +125,4 @@ pub fn edited(bytes: &[u8], place: usize, width: usize, number: u64) -> Vec<u8> 
     let mut bytes = bytes.to_vec();
     bytes[place..place + width].copy_from_slice(&number.to_le_bytes()[..width]);
     bytes
-}
-
-/// Where a source entry, a line and the names begin, in a register of so many sources and lines.
-pub fn source_at(index: usize) -> usize {
-    HEADER_BYTES + SOURCE_BYTES * index
-}
-
-pub fn line_at(sources: usize, index: usize) -> usize {
-    source_at(sources) + LINE_BYTES * index
 }

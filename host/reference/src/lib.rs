@@ -1,7 +1,8 @@
 //! Document 01 once more, from its words alone: a reference to hold the proved program against.
 //!
 //! `register`, `methods`, `masses`, `report` and `calls` are document 01, part by part, each function under the
-//! sentence that it says; `bytes` and `answers` serve them. They share no code and no table with the proved program.
+//! sentence that it says; `layout`, `bytes` and `answers` serve them. They share no code and no table with the proved
+//! program.
 //!
 //! The rest makes inputs: `draft` writes registers out of their parts, `call` is a call with all that is lent to it,
 //! `sums` has results that are known from outside, `cases` has chosen calls, `generator` makes calls from a seed,
@@ -15,6 +16,7 @@ pub mod cases;
 pub mod draft;
 pub mod examples;
 pub mod generator;
+pub mod layout;
 pub mod listing;
 pub mod masses;
 pub mod methods;

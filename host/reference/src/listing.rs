@@ -3,7 +3,7 @@
 use crate::answers::Refusal;
 use crate::bytes::number_at;
 use crate::calls::report_program;
-use crate::draft::{line_at, source_at};
+use crate::layout::{line_at, source_at};
 use crate::register::Register;
 
 /// The header's fields behind the tag: name, first byte, width.

@@ -1,10 +1,14 @@
 //! "Rounding and equivalence": a source's masses in whole grams; refusals 6 and 7.
 
+use crate::layout::{FIGURES, GASES};
 use crate::methods::{contribution, Gas};
 use crate::register::Line;
 
 /// "at most 10^15 g a source"
 pub const MOST_EQUIVALENT: u128 = 1_000_000_000_000_000;
+
+/// "Warming potentials are the 100-year values of the IPCC Fourth Assessment: CO2 1, CH4 25, N2O 298."
+pub const WARMING: [u64; GASES] = [1, 25, 298];
 
 /// Whole grams of each gas.
 #[derive(Clone, Copy, Debug, Default, PartialEq, Eq)]
@@ -17,13 +21,19 @@ pub struct Masses {
 impl Masses {
     /// "CO2-equivalent is CO2 + 25 CH4 + 298 N2O of the rounded masses."
     pub fn equivalent(&self) -> u128 {
-        u128::from(self.co2) + 25 * u128::from(self.ch4) + 298 * u128::from(self.n2o)
+        self.gases().iter().zip(WARMING).map(|(mass, warming)| mass * u128::from(warming)).sum()
     }
 
-    /// Each gas in a report's order, and the equivalent behind them.
-    pub fn with_equivalent(&self) -> [u128; 4] {
-        let gases = [self.co2, self.ch4, self.n2o].map(u128::from);
-        [gases[0], gases[1], gases[2], self.equivalent()]
+    /// Each gas in a report's order.
+    fn gases(&self) -> [u128; GASES] {
+        [self.co2, self.ch4, self.n2o].map(u128::from)
+    }
+
+    /// Each gas, and the equivalent behind them.
+    pub fn with_equivalent(&self) -> [u128; FIGURES] {
+        let mut figures = [self.equivalent(); FIGURES];
+        figures[..GASES].copy_from_slice(&self.gases());
+        figures
     }
 }
 

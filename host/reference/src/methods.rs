@@ -29,7 +29,7 @@ pub struct Row {
 /// "Units: 1 tonne, 2 thousand m3, 3 tonne of standard fuel, 4 TJ."
 const ANY_UNIT: &[u8] = &[1, 2, 3, 4];
 
-/// A's limit goes by the unit (`is_in_range`); a row says only where A is narrower than that.
+/// A's limit goes by the unit (`most_a`); a row says only where A is narrower than that.
 const ANY_A: RangeInclusive<u32> = 0..=99_999_999;
 
 const ANY_B: RangeInclusive<u32> = 0..=10_000;
@@ -124,11 +124,21 @@ pub fn contribution(method: u8, parameter: u8, line: &Line) -> Option<(Gas, i128
     Some((row.gas, (row.adds)(line, parameter)))
 }
 
-/// "Q is 0 to 10,000,000,000. .. A is in millionths: at most 1,000,000 where the unit is tonne, else at most
-/// 99,999,999. B is in ten-thousandths, 0 to 10,000."
+/// "Q is 0 to 10,000,000,000 thousandths of the unit."
+pub const MOST_QUANTITY: u64 = 10_000_000_000;
+
+/// "A is in millionths: at most 1,000,000 where the unit is tonne, else at most 99,999,999."
+pub fn most_a(unit: u8) -> u32 {
+    if unit == 1 {
+        1_000_000
+    } else {
+        99_999_999
+    }
+}
+
+/// The ranges of Q and A, and "B is in ten-thousandths, 0 to 10,000."
 fn is_in_range(line: &Line) -> bool {
-    let most_a = if line.unit == 1 { 1_000_000 } else { 99_999_999 };
-    line.quantity <= 10_000_000_000 && line.a <= most_a && line.b <= 10_000
+    line.quantity <= MOST_QUANTITY && line.a <= most_a(line.unit) && ANY_B.contains(&line.b)
 }
 
 impl Row {

@@ -4,17 +4,13 @@ use std::collections::BTreeSet;
 
 use crate::answers::Refusal;
 use crate::bytes::number_at;
+use crate::layout::{
+    line_at, source_at, LINE_LENGTH, MOST_LINES, MOST_NAME_BYTES, MOST_SOURCES, NAME_LENGTHS, REGISTER_LAYOUT,
+    SOURCES_AT, SOURCE_LENGTH, YEARS,
+};
 use crate::methods;
 
-pub const HEADER_BYTES: usize = 32;
-pub const SOURCE_BYTES: usize = 16;
-pub const LINE_BYTES: usize = 20;
-pub const MOST_SOURCES: usize = 512;
-pub const MOST_LINES: usize = 1_024;
-pub const MOST_NAME_BYTES: usize = 16_384;
-pub const YEARS: std::ops::RangeInclusive<u64> = 1990..=2100;
-
-/// A source entry's fields, as they stand in its 16 bytes.
+/// A source entry's fields, as they stand in its bytes.
 #[derive(Clone, Copy, Debug, PartialEq, Eq)]
 pub struct Source {
     pub number: u32,
@@ -26,7 +22,7 @@ pub struct Source {
     pub name_offset: u32,
 }
 
-/// A line's fields, as they stand in its 20 bytes.
+/// A line's fields, as they stand in its bytes.
 #[derive(Clone, Copy, Debug, PartialEq, Eq)]
 pub struct Line {
     pub kind: u8,
@@ -56,7 +52,8 @@ struct Counts {
 }
 
 impl Source {
-    /// "number (4), method and parameter (1 each), line count (2), first line (2), name length (2), name offset (4)"
+    /// "number (4, ..), method and parameter (1 each, ..), line count (2, ..), first line (2), name length (2, ..), name
+    /// offset in the names (4)"
     fn read(entry: &[u8]) -> Source {
         Source {
             number: number_at(entry, 0, 4) as u32,
@@ -105,12 +102,12 @@ impl Counts {
 
     /// "offset of lines | 32 + 16n"
     fn lines_at(&self) -> u64 {
-        HEADER_BYTES as u64 + SOURCE_BYTES as u64 * self.sources
+        source_at(self.sources as usize) as u64
     }
 
     /// "offset of names | 32 + 16n + 20m"
     fn names_at(&self) -> u64 {
-        self.lines_at() + LINE_BYTES as u64 * self.lines
+        line_at(self.sources as usize, self.lines as usize) as u64
     }
 
     /// "whole length | 32 + 16n + 20m + t"
@@ -130,7 +127,7 @@ impl<'a> Register<'a> {
 
     /// Tests 1 and 2: after them the bytes lent hold every entry, line and name.
     pub fn with_right_header(bytes: &[u8]) -> Result<Register<'_>, Refusal> {
-        if bytes.len() < HEADER_BYTES {
+        if bytes.len() < SOURCES_AT {
             return Err(Refusal::new(1, 0));
         }
         if let Some(place) = wrong_header_field(bytes) {
@@ -139,8 +136,8 @@ impl<'a> Register<'a> {
         let counts = Counts::read(bytes);
         let lines_at = counts.lines_at() as usize;
         let names_at = counts.names_at() as usize;
-        let sources = bytes[HEADER_BYTES..lines_at].chunks(SOURCE_BYTES);
-        let lines = bytes[lines_at..names_at].chunks(LINE_BYTES);
+        let sources = bytes[SOURCES_AT..lines_at].chunks(SOURCE_LENGTH);
+        let lines = bytes[lines_at..names_at].chunks(LINE_LENGTH);
         Ok(Register {
             year: counts.year as u16,
             sources: sources.map(Source::read).collect(),
@@ -179,7 +176,7 @@ impl<'a> Register<'a> {
             && methods::is_listed(source.method, source.parameter)
             && source.line_count >= 1
             && source.lines_end() <= self.lines.len()
-            && (1..=64).contains(&source.name_length)
+            && NAME_LENGTHS.contains(&source.name_length.into())
             && source.name_end() <= self.names.len()
             && self.name(source).iter().all(|&byte| is_name_byte(byte))
     }
@@ -217,12 +214,12 @@ fn wrong_header_field(bytes: &[u8]) -> Option<u64> {
     let whole_length = number_at(bytes, 28, 4);
     let fields = [
         (0, &bytes[0..4] == b"GREG"),
-        (4, number_at(bytes, 4, 2) == 1),
+        (4, number_at(bytes, 4, 2) == REGISTER_LAYOUT),
         (6, YEARS.contains(&counts.year)),
         (8, counts.sources <= MOST_SOURCES as u64),
         (10, counts.lines <= MOST_LINES as u64),
         (12, counts.name_bytes <= MOST_NAME_BYTES as u64),
-        (16, number_at(bytes, 16, 4) == HEADER_BYTES as u64),
+        (16, number_at(bytes, 16, 4) == SOURCES_AT as u64),
         (20, number_at(bytes, 20, 4) == counts.lines_at()),
         (24, number_at(bytes, 24, 4) == counts.names_at()),
         (28, whole_length == counts.whole_length() && whole_length == bytes.len() as u64),

@@ -1,11 +1,11 @@
 //! "The report": its bytes, what is well-formed, its text.
 
 use crate::bytes::{append, number_at};
+use crate::layout::{
+    figure_at, report_length, ENTRIES_AT, ENTRY_LENGTH, FIGURES, FIGURES_AT, FIGURE_LENGTH, METHODS, MOST_SOURCES,
+    REPORT_LAYOUT, TOTALS_AT, YEARS,
+};
 use crate::masses::{Masses, MOST_EQUIVALENT};
-use crate::register::{MOST_SOURCES, YEARS};
-
-pub const HEADER_BYTES: usize = 56;
-pub const ENTRY_BYTES: usize = 40;
 
 #[derive(Clone, Copy, Debug, PartialEq, Eq)]
 pub struct Entry {
@@ -21,19 +21,15 @@ pub struct Report {
 }
 
 impl Report {
-    /// "Entries are 40 bytes, ascending by source number."
+    /// "Entries are .. ascending by source number."
     pub fn of(year: u16, mut entries: Vec<Entry>) -> Report {
         entries.sort_by_key(|entry| entry.number);
         Report { year, entries }
     }
 
-    fn length(&self) -> usize {
-        HEADER_BYTES + ENTRY_BYTES * self.entries.len()
-    }
-
     /// "the totals of CO2, CH4, N2O and CO2-equivalent"
-    fn totals(&self) -> [u128; 4] {
-        let mut totals = [0; 4];
+    fn totals(&self) -> [u128; FIGURES] {
+        let mut totals = [0; FIGURES];
         for entry in &self.entries {
             let masses = entry.masses.with_equivalent();
             for (total, mass) in totals.iter_mut().zip(masses) {
@@ -44,17 +40,17 @@ impl Report {
     }
 
     /// "Every report starts with the four bytes GREP. Then: layout 1 (2), year (2), count n (2), zero (2), offset of
-    /// entries 56 (4), whole length 56 + 40n (4), zero (4), and the totals (8 each)."
+    /// entries 56 (4), whole length 56 + 40n (4), zero (4), and the totals of CO2, CH4, N2O and CO2-equivalent (8 each)."
     pub fn bytes(&self) -> Vec<u8> {
         let mut bytes = b"GREP".to_vec();
-        append(&mut bytes, 2, 1);
+        append(&mut bytes, 2, REPORT_LAYOUT);
         append(&mut bytes, 2, u64::from(self.year));
         append(&mut bytes, 2, self.entries.len() as u64);
         append(&mut bytes, 2, 0);
-        append(&mut bytes, 4, HEADER_BYTES as u64);
-        append(&mut bytes, 4, self.length() as u64);
+        append(&mut bytes, 4, ENTRIES_AT as u64);
+        append(&mut bytes, 4, report_length(self.entries.len()) as u64);
         append(&mut bytes, 4, 0);
-        append_masses(&mut bytes, self.totals());
+        append_figures(&mut bytes, self.totals());
         for entry in &self.entries {
             entry.append_to(&mut bytes);
         }
@@ -63,15 +59,15 @@ impl Report {
 
     /// The report that well-formed bytes hold; nothing where the bytes are not well-formed.
     pub fn read(bytes: &[u8]) -> Option<Report> {
-        if bytes.len() < HEADER_BYTES || !is_header_right(bytes) {
+        if bytes.len() < ENTRIES_AT || !is_header_right(bytes) {
             return None;
         }
-        let entries = bytes[HEADER_BYTES..].chunks(ENTRY_BYTES);
+        let entries = bytes[ENTRIES_AT..].chunks(ENTRY_LENGTH);
         if !entries.clone().all(is_entry_right) {
             return None;
         }
         let report = Report { year: number_at(bytes, 6, 2) as u16, entries: entries.map(Entry::read).collect() };
-        let is_right = report.has_ascending_numbers() && report.totals() == masses_at(bytes, 24);
+        let is_right = report.has_ascending_numbers() && report.totals() == figures_at(bytes, TOTALS_AT);
         is_right.then_some(report)
     }
 
@@ -99,14 +95,15 @@ impl Entry {
         append(bytes, 4, u64::from(self.number));
         append(bytes, 1, u64::from(self.method));
         append(bytes, 3, 0);
-        append_masses(bytes, self.masses.with_equivalent());
+        append_figures(bytes, self.masses.with_equivalent());
     }
 
     fn read(entry: &[u8]) -> Entry {
+        let mass = |gas| number_at(entry, figure_at(gas), FIGURE_LENGTH);
         Entry {
             number: number_at(entry, 0, 4) as u32,
             method: entry[4],
-            masses: Masses { co2: number_at(entry, 8, 8), ch4: number_at(entry, 16, 8), n2o: number_at(entry, 24, 8) },
+            masses: Masses { co2: mass(0), ch4: mass(1), n2o: mass(2) },
         }
     }
 }
@@ -115,13 +112,13 @@ impl Entry {
 /// range, n at most 512"
 fn is_header_right(bytes: &[u8]) -> bool {
     let count = number_at(bytes, 8, 2);
-    let length = (HEADER_BYTES + ENTRY_BYTES * count as usize) as u64;
+    let length = report_length(count as usize) as u64;
     &bytes[0..4] == b"GREP"
-        && number_at(bytes, 4, 2) == 1
+        && number_at(bytes, 4, 2) == REPORT_LAYOUT
         && YEARS.contains(&number_at(bytes, 6, 2))
         && count <= MOST_SOURCES as u64
         && number_at(bytes, 10, 2) == 0
-        && number_at(bytes, 12, 4) == HEADER_BYTES as u64
+        && number_at(bytes, 12, 4) == ENTRIES_AT as u64
         && number_at(bytes, 16, 4) == length
         && bytes.len() as u64 == length
         && number_at(bytes, 20, 4) == 0
@@ -131,24 +128,24 @@ fn is_header_right(bytes: &[u8]) -> bool {
 fn is_entry_right(bytes: &[u8]) -> bool {
     let entry = Entry::read(bytes);
     entry.number != 0
-        && (1..=6).contains(&entry.method)
+        && METHODS.contains(&entry.method.into())
         && number_at(bytes, 5, 3) == 0
-        && entry.masses.with_equivalent() == masses_at(bytes, 8)
+        && entry.masses.with_equivalent() == figures_at(bytes, FIGURES_AT)
         && entry.masses.equivalent() <= MOST_EQUIVALENT
 }
 
-/// The four numbers of 8 bytes that stand from a place on, in totals as in an entry.
-fn masses_at(bytes: &[u8], place: usize) -> [u128; 4] {
-    [0, 8, 16, 24].map(|offset| u128::from(number_at(bytes, place + offset, 8)))
+/// The figures that stand from a place on, in totals as in an entry.
+fn figures_at(bytes: &[u8], place: usize) -> [u128; FIGURES] {
+    std::array::from_fn(|figure| u128::from(number_at(bytes, place + FIGURE_LENGTH * figure, FIGURE_LENGTH)))
 }
 
-fn append_masses(bytes: &mut Vec<u8>, masses: [u128; 4]) {
-    for mass in masses {
-        append(bytes, 8, mass as u64);
+fn append_figures(bytes: &mut Vec<u8>, figures: [u128; FIGURES]) {
+    for figure in figures {
+        append(bytes, FIGURE_LENGTH, figure as u64);
     }
 }
 
-fn text_line(front: [u128; 2], masses: [u128; 4]) -> String {
-    let fields: Vec<String> = front.iter().chain(&masses).map(|number| number.to_string()).collect();
+fn text_line(front: [u128; 2], figures: [u128; FIGURES]) -> String {
+    let fields: Vec<String> = front.iter().chain(&figures).map(|number| number.to_string()).collect();
     fields.join(" ") + "\n"
 }

@@ -4,8 +4,7 @@ use crate::answers::Answer;
 use crate::calls;
 use crate::draft::{boiler, boiler_line, boilers, line, register, source, Draft};
 use crate::examples;
-use crate::register::MOST_SOURCES;
-use crate::report::{ENTRY_BYTES, HEADER_BYTES};
+use crate::layout::{MOST_REPORT_LENGTH, SOURCES_AT};
 
 /// The samples and their file names.
 pub fn all() -> Vec<(&'static str, Vec<u8>)> {
@@ -27,7 +26,7 @@ pub fn all() -> Vec<(&'static str, Vec<u8>)> {
 }
 
 fn made(call: impl FnOnce(&mut [u8]) -> Answer) -> Vec<u8> {
-    let mut buffer = vec![0; HEADER_BYTES + ENTRY_BYTES * MOST_SOURCES];
+    let mut buffer = vec![0; MOST_REPORT_LENGTH];
     let answer = call(&mut buffer);
     assert_eq!(answer.number, 0, "a sample is accepted");
     buffer.truncate(answer.length as usize);
@@ -60,7 +59,7 @@ fn refused(boilers_bytes: &[u8]) -> [(&'static str, Vec<u8>); 7] {
     let methane = line(2, 2, 0, 4_000_001, 10_000, 10_000_000_000);
     let with_boiler = |other| register(2023, vec![boiler(7), other]).bytes();
     [
-        ("refused-1.register", boilers_bytes[..31].to_vec()),
+        ("refused-1.register", boilers_bytes[..SOURCES_AT - 1].to_vec()),
         ("refused-2.register", other_layout),
         ("refused-3.register", boilers(&[7, 0]).bytes()),
         ("refused-4.register", boilers(&[7, 8, 7]).bytes()),

@@ -3,8 +3,10 @@
 use std::collections::BTreeSet;
 use std::path::Path;
 
+use reference::answers::LAST_REFUSAL;
 use reference::bytes::number_at;
 use reference::cases::{calls, chosen, generated, listing, output};
+use reference::layout::MOST_REGISTER_LENGTH;
 
 #[test]
 fn answers_are_those_stated() {
@@ -16,7 +18,7 @@ fn answers_are_those_stated() {
     }
 }
 
-/// "A refusal writes nothing", and "bytes after that length stay".
+/// "A refusal .. writes nothing", and "bytes after that length stay".
 #[test]
 fn bytes_behind_the_length_stay() {
     for case in chosen().into_iter().flat_map(|group| group.cases) {
@@ -42,8 +44,11 @@ fn names_fit_and_differ_in_their_group() {
 fn each_refusal_number_has_a_case() {
     let cases = chosen().into_iter().flat_map(|group| group.cases);
     let numbers: BTreeSet<u64> = cases.filter(|c| c.answer.len() == 3).map(|c| c.answer[0]).collect();
-    assert!((0..=13).all(|number| numbers.contains(&number)));
+    assert!((0..=LAST_REFUSAL).all(|number| numbers.contains(&number.into())));
 }
+
+/// The length of a record's header, as `cases::file` describes it.
+const RECORD_HEADER: usize = 64;
 
 /// Reads the file as a program would, and compares every record with its call.
 #[test]
@@ -57,10 +62,11 @@ fn file_holds_every_call() {
         assert_eq!(record[1], case.call.fill);
         assert_eq!(number_at(record, 4, 4), u64::from(case.call.number));
         assert_eq!(number_at(record, 8, 4), case.call.room as u64);
-        assert_eq!(&record[64..64 + first], case.call.first);
-        assert_eq!(&record[64 + first..64 + first + second], case.call.second);
-        assert!(first.max(second).max(case.call.room) <= 45_089);
-        at += 64 + first + second;
+        let inputs = &record[RECORD_HEADER..];
+        assert_eq!(&inputs[..first], case.call.first);
+        assert_eq!(&inputs[first..first + second], case.call.second);
+        assert!(first.max(second).max(case.call.room) <= MOST_REGISTER_LENGTH + 1);
+        at += RECORD_HEADER + first + second;
     }
     assert_eq!(at, file.len());
 }
@@ -73,10 +79,10 @@ fn files_are_the_same_each_time_and_small() {
     assert!(calls(&generated(5, 50)) == calls(&generated(5, 50)));
 }
 
-/// The program `cases` reads these calls, and has to write what the reference makes of them.
+/// The program `test_calls` reads these calls, and has to write what the reference makes of them.
 #[test]
 fn stored_files_are_those_made() {
-    let crate_folder = Path::new("../../crates/cases");
+    let crate_folder = Path::new("../../crates/test_calls");
     let stored = |name| std::fs::read(crate_folder.join(name)).unwrap();
     assert!(stored("data/calls") == calls(&chosen()));
     assert!(stored("stdout") == output(&chosen()));

@@ -3,13 +3,12 @@
 
 use reference::calls::{calculate, combine, remove};
 use reference::generator::{dealing, registers, Random};
+use reference::layout::MOST_REPORT_LENGTH;
 use reference::report::Report;
-
-const ROOM: usize = 20_536;
 
 /// Lends a buffer with room for any report, and gives what was written.
 fn written(call: impl Fn(&mut [u8]) -> reference::answers::Answer) -> Vec<u8> {
-    let mut buffer = vec![0; ROOM];
+    let mut buffer = vec![0; MOST_REPORT_LENGTH];
     let answer = call(&mut buffer);
     assert_eq!(answer.number, 0);
     buffer.truncate(answer.length as usize);

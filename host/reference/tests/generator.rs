@@ -1,15 +1,15 @@
 //! The generator gives the same calls again, reaches every answer, and spoils what it means to spoil.
 
+use reference::answers::LAST_REFUSAL;
 use reference::calls::{calculate, check};
 use reference::generator::faults::{spoilt, FAULTS};
 use reference::generator::{call, counts, registers, reports, Random};
+use reference::layout::{MOST_REGISTER_LENGTH, MOST_REPORT_LENGTH};
 use reference::methods::{contribution, Gas};
 use reference::register::Register;
 
-const ROOM: usize = 20_536;
-
 fn refusal_of(register: &[u8]) -> u32 {
-    calculate(register, &mut [0; ROOM]).number
+    calculate(register, &mut [0; MOST_REPORT_LENGTH]).number
 }
 
 #[test]
@@ -23,7 +23,7 @@ fn calls_come_again() {
 #[test]
 fn every_answer_is_reached() {
     let counts = counts(1, 12_000);
-    for number in 0..=13 {
+    for number in 0..=LAST_REFUSAL {
         assert!(counts.contains_key(&format!("{number:>2}")), "{number}: {counts:?}");
     }
     assert!(counts.contains_key("a name") && counts.contains_key("no name"));
@@ -34,7 +34,7 @@ fn valid_registers_are_accepted() {
     for index in 0..300 {
         let draft = registers::valid(&mut Random::of(2, index));
         let bytes = draft.bytes();
-        assert!(bytes.len() <= 45_088);
+        assert!(bytes.len() <= MOST_REGISTER_LENGTH);
         assert_eq!(refusal_of(&bytes), 0, "register {index}");
     }
 }

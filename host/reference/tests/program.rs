@@ -22,7 +22,7 @@ fn refusals_are_a_line() {
     assert_eq!(refused_line(13, 4_294_967_295), b"refused 13 4294967295\n");
 }
 
-/// "An input longer than any register is answered as if all of it were lent": the header's own faults come first.
+/// They are answered as if all of them were lent: 2 with place 28, or with that of an earlier field of the header.
 #[test]
 fn inputs_longer_than_any_register() {
     let mut input = boilers(&[8, 7]).bytes();

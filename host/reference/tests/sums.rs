@@ -1,11 +1,12 @@
 //! Sums whose results are known: document 01's by hand, the source documents' own pairs, rounding, every factor.
 
 use reference::calls::calculate;
+use reference::layout::report_length;
 use reference::report::Report;
 use reference::sums::{by_hand, factors, printed, rounding, Known, Sum};
 
 fn calculated(sum: &Sum) -> Known {
-    let mut buffer = [0; 96];
+    let mut buffer = [0; report_length(1)];
     let answer = calculate(&sum.register(), &mut buffer);
     if answer.number != 0 {
         assert_eq!((answer.place, answer.length), (0, 0), "{}", sum.name);

@@ -1,5 +1,6 @@
 //! Combination: one pass over both reports finds a shared number, one writes.
 
+use crate::layout::{report_length, ENTRIES_AT, ENTRY_LENGTH, MOST_SOURCES};
 use crate::report::{number_of, put_header, well_formed, Entry, Report};
 use crate::{room, Refusal};
 
@@ -12,15 +13,15 @@ pub fn combined(first: &[u8], second: &[u8], report: &mut [u8]) -> Result<usize,
         return Err((11, u64::from(shared)));
     }
     let count = first.entries.len() + second.entries.len();
-    if count > 512 {
+    if count > MOST_SOURCES {
         return Err((12, count as u64));
     }
-    let report = room(report, 56 + 40 * count)?;
+    let report = room(report, report_length(count))?;
     write(&first, &second, report);
     Ok(report.len())
 }
 
-/// The smallest number of both. A step goes on in whichever has the smaller number, without a branch.
+/// The smallest number that stands in both. A step goes on in whichever has the smaller number, without a branch.
 fn shared_number(first: &[Entry], second: &[Entry]) -> Option<u32> {
     let (mut i, mut j) = (0, 0);
     while i < first.len() && j < second.len() {
@@ -35,11 +36,11 @@ fn shared_number(first: &[Entry], second: &[Entry]) -> Option<u32> {
 }
 
 fn write(first: &Report, second: &Report, report: &mut [u8]) {
-    let (header, entries) = report.split_first_chunk_mut::<56>().expect("a report has a header");
+    let (header, entries) = report.split_first_chunk_mut::<ENTRIES_AT>().expect("a report has a header");
     let totals = std::array::from_fn(|figure| first.totals[figure] + second.totals[figure]);
     put_header(header, first.year, first.entries.len() + second.entries.len(), &totals);
     let (mut ones, mut others) = (first.entries, second.entries);
-    let mut entries = entries.as_chunks_mut::<40>().0.iter_mut();
+    let mut entries = entries.as_chunks_mut::<ENTRY_LENGTH>().0.iter_mut();
     while let ([one, ones_after @ ..], [other, others_after @ ..]) = (ones, others) {
         let Some(entry) = entries.next() else { return };
         if number_of(one) < number_of(other) {

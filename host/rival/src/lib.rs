@@ -8,6 +8,7 @@
 mod calculation;
 mod combination;
 mod fields;
+mod layout;
 mod lookup;
 mod register;
 mod removal;

@@ -1,9 +1,10 @@
 //! Lookups: tests 1 to 4 of each register given, and the name's place. No order is wanted, so repeats are found by a hash.
 
 use crate::fields::{u16_at, u32_at};
-use crate::register::{SourceEntry, Table, MOST};
+use crate::layout::{MOST_SOURCES, NAME_LENGTH, NAME_OFFSET, NUMBER, SOURCES_AT};
+use crate::register::{SourceEntry, Table};
 
-/// So few sources do not pay for clearing a table for 512.
+/// So few sources do not pay for clearing a table for the most there may be.
 const FEW: usize = 16;
 
 /// A register that tests 1 to 4 accept.
@@ -12,7 +13,7 @@ pub fn accepted(register: &[u8]) -> Option<Table<'_>> {
     let repeats = if table.sources.len() <= FEW {
         has_repeats(table.sources, &mut [0; 2 * FEW])
     } else {
-        has_repeats(table.sources, &mut [0; 2 * MOST])
+        has_repeats(table.sources, &mut [0; 2 * MOST_SOURCES])
     };
     (!repeats).then_some(table)
 }
@@ -20,7 +21,7 @@ pub fn accepted(register: &[u8]) -> Option<Table<'_>> {
 /// Whether a number stands twice, by a table of twice as many places, a power of two, 0 being free.
 fn has_repeats<const PLACES: usize>(sources: &[SourceEntry], places: &mut [u32; PLACES]) -> bool {
     for source in sources {
-        let number = u32_at(source, 0);
+        let number = u32_at(source, NUMBER);
         let mut place = (number.wrapping_mul(0x9E37_79B1) >> (32 - PLACES.trailing_zeros())) as usize % PLACES;
         while places[place] != 0 {
             if places[place] == number {
@@ -36,9 +37,9 @@ fn has_repeats<const PLACES: usize>(sources: &[SourceEntry], places: &mut [u32; 
 impl Table<'_> {
     /// Offset and length of the name of a number's source.
     pub fn name(&self, number: u32) -> Option<(u64, u64)> {
-        let source = self.sources.iter().find(|source| u32_at(source, 0) == number)?;
-        let names_at = 32 + 16 * self.sources.len() + 20 * self.lines.len();
-        Some((names_at as u64 + u64::from(u32_at(source, 12)), u64::from(u16_at(source, 10))))
+        let source = self.sources.iter().find(|source| u32_at(source, NUMBER) == number)?;
+        let names_at = SOURCES_AT + self.sources.as_flattened().len() + self.lines.as_flattened().len();
+        Some((names_at as u64 + u64::from(u32_at(source, NAME_OFFSET)), u64::from(u16_at(source, NAME_LENGTH))))
     }
 }
 

@@ -1,12 +1,14 @@
 //! A register's tests 1 to 3, and its tables where they have passed.
 
 use crate::fields::{u16_at, u32_at};
+use crate::layout::{
+    FIRST_LINE, LINE_COUNT, LINE_LENGTH, METHOD, MOST_LINES, MOST_NAME_BYTES, MOST_NAME_LENGTH, MOST_SOURCES,
+    NAME_LENGTH, NAME_OFFSET, NUMBER, PARAMETER, REGISTER_LAYOUT, SOURCES_AT, SOURCE_LENGTH, YEARS,
+};
 use crate::Refusal;
 
-pub const MOST: usize = 512;
-
-pub type SourceEntry = [u8; 16];
-pub type Line = [u8; 20];
+pub type SourceEntry = [u8; SOURCE_LENGTH];
+pub type Line = [u8; LINE_LENGTH];
 
 /// The parts of a register whose header is right.
 pub struct Table<'a> {
@@ -19,11 +21,11 @@ pub struct Table<'a> {
 impl<'a> Table<'a> {
     /// Tests 1 to 3.
     pub fn read(register: &'a [u8]) -> Result<Table<'a>, Refusal> {
-        let Some((header, rest)) = register.split_first_chunk::<32>() else { return Err((1, 0)) };
+        let Some((header, rest)) = register.split_first_chunk::<SOURCES_AT>() else { return Err((1, 0)) };
         let (sources, lines) = (usize::from(u16_at(header, 8)), usize::from(u16_at(header, 10)));
         test_header(header, register.len())?;
-        let (sources, rest) = rest.split_at(16 * sources);
-        let (lines, names) = rest.split_at(20 * lines);
+        let (sources, rest) = rest.split_at(SOURCE_LENGTH * sources);
+        let (lines, names) = rest.split_at(LINE_LENGTH * lines);
         let table =
             Table { year: u16_at(header, 6), sources: sources.as_chunks().0, lines: lines.as_chunks().0, names };
         table.test_sources()?;
@@ -33,9 +35,10 @@ impl<'a> Table<'a> {
     fn test_sources(&self) -> Result<(), Refusal> {
         let (mut line, mut byte) = (0, 0);
         for (index, source) in self.sources.iter().enumerate() {
-            let lines_end = line + usize::from(u16_at(source, 6));
-            let name_end = byte + usize::from(u16_at(source, 10));
-            let begins_right = usize::from(u16_at(source, 8)) == line && u32_at(source, 12) as usize == byte;
+            let lines_end = line + usize::from(u16_at(source, LINE_COUNT));
+            let name_end = byte + usize::from(u16_at(source, NAME_LENGTH));
+            let begins_right =
+                usize::from(u16_at(source, FIRST_LINE)) == line && u32_at(source, NAME_OFFSET) as usize == byte;
             let name = self.names.get(byte..name_end).unwrap_or(&[]);
             if !begins_right || lines_end > self.lines.len() || !is_sound(source, name) {
                 return Err((3, index as u64));
@@ -50,18 +53,18 @@ impl<'a> Table<'a> {
     }
 }
 
-fn test_header(header: &[u8; 32], lent: usize) -> Result<(), Refusal> {
+fn test_header(header: &[u8; SOURCES_AT], lent: usize) -> Result<(), Refusal> {
     let (sources, lines, name_bytes) = (u16_at(header, 8), u16_at(header, 10), u32_at(header, 12));
-    let lines_at = 32 + 16 * u32::from(sources);
-    let names_at = lines_at + 20 * u32::from(lines);
+    let lines_at = SOURCES_AT as u32 + SOURCE_LENGTH as u32 * u32::from(sources);
+    let names_at = lines_at + LINE_LENGTH as u32 * u32::from(lines);
     let right = [
         (0, header[..4] == *b"GREG"),
-        (4, u16_at(header, 4) == 1),
-        (6, (1990..=2100).contains(&u16_at(header, 6))),
-        (8, sources <= 512),
-        (10, lines <= 1_024),
-        (12, name_bytes <= 16_384),
-        (16, u32_at(header, 16) == 32),
+        (4, u16_at(header, 4) == REGISTER_LAYOUT),
+        (6, YEARS.contains(&u16_at(header, 6))),
+        (8, sources <= MOST_SOURCES as u16),
+        (10, lines <= MOST_LINES as u16),
+        (12, name_bytes <= MOST_NAME_BYTES as u32),
+        (16, u32_at(header, 16) == SOURCES_AT as u32),
         (20, u32_at(header, 20) == lines_at),
         (24, u32_at(header, 24) == names_at),
         (28, u32_at(header, 28) == names_at.wrapping_add(name_bytes) && u32_at(header, 28) as usize == lent),
@@ -74,10 +77,10 @@ fn test_header(header: &[u8; 32], lent: usize) -> Result<(), Refusal> {
 
 /// What an entry has to be by itself; a name that runs past the names was handed over empty.
 fn is_sound(source: &SourceEntry, name: &[u8]) -> bool {
-    u32_at(source, 0) != 0
-        && is_listed(source[4], source[5])
-        && u16_at(source, 6) != 0
-        && (1..=64).contains(&name.len())
+    u32_at(source, NUMBER) != 0
+        && is_listed(source[METHOD], source[PARAMETER])
+        && u16_at(source, LINE_COUNT) != 0
+        && (1..=MOST_NAME_LENGTH).contains(&name.len())
         && !has_bad_byte(name)
 }
 

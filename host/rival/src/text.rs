@@ -1,7 +1,8 @@
 //! A report as text: measured first, since a refusal writes nothing, then written two digits at a time.
 
 use crate::fields::u64_at;
-use crate::report::{well_formed, Entry, Report};
+use crate::layout::{FIGURES, FIGURES_AT};
+use crate::report::{figures_at, well_formed, Entry, Report};
 use crate::{room, Refusal};
 
 pub fn written(report: &[u8], text: &mut [u8]) -> Result<usize, Refusal> {
@@ -14,7 +15,9 @@ pub fn written(report: &[u8], text: &mut [u8]) -> Result<usize, Refusal> {
     Ok(needed)
 }
 
-type Row = [u64; 6];
+/// Two numbers and the figures.
+type Row = [u64; FIELDS];
+const FIELDS: usize = 2 + FIGURES;
 
 fn rows<'a>(report: &'a Report) -> impl Iterator<Item = Row> + 'a {
     let [co2, ch4, n2o, equivalent] = report.totals;
@@ -24,7 +27,8 @@ fn rows<'a>(report: &'a Report) -> impl Iterator<Item = Row> + 'a {
 
 fn row_of(entry: &Entry) -> Row {
     let front = u64_at(entry, 0);
-    [front & 0xFFFF_FFFF, front >> 32, u64_at(entry, 8), u64_at(entry, 16), u64_at(entry, 24), u64_at(entry, 32)]
+    let [co2, ch4, n2o, equivalent] = figures_at(entry, FIGURES_AT);
+    [front & 0xFFFF_FFFF, front >> 32, co2, ch4, n2o, equivalent]
 }
 
 /// The powers of ten, 0 in the place of the first, since 0 has a digit too.
@@ -50,7 +54,7 @@ fn put_row<'a>(mut text: &'a mut [u8], row: &Row) -> &'a mut [u8] {
         let (own, rest) = text.split_at_mut(digits(number) + 1);
         let (after, own) = own.split_last_mut().expect("a field has its separator");
         put_number(own, number);
-        *after = if field == 5 { b'\n' } else { b' ' };
+        *after = if field == FIELDS - 1 { b'\n' } else { b' ' };
         text = rest;
     }
     text

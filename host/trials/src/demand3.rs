@@ -3,6 +3,7 @@
 
 use reference::call::Entry;
 use reference::generator::{dealing, Dealing};
+use reference::layout::MOST_REPORT_LENGTH;
 
 use crate::sides::Side;
 
@@ -19,11 +20,9 @@ pub fn dealings(side: Side, seed: u64, count: u64) -> Result<(), String> {
     Ok(())
 }
 
-const ROOM: usize = 56 + 512 * 40;
-
 /// What a call writes, if it is accepted.
 fn written(side: Side, entry: Entry, first: &[u8], second: &[u8], number: u32) -> Vec<u8> {
-    let mut buffer = vec![0; ROOM];
+    let mut buffer = vec![0; MOST_REPORT_LENGTH];
     let [refusal, _, length] = side(entry, first, second, number, &mut buffer);
     buffer.truncate(if refusal == 0 { length as usize } else { 0 });
     buffer

@@ -2,6 +2,7 @@
 
 use reference::call::{Call, Entry};
 use reference::generator::{registers, Random};
+use reference::layout::{report_length, MOST_REPORT_LENGTH, MOST_SOURCES};
 use trials::compared::generated;
 use trials::demand3::dealings;
 use trials::lent::Around;
@@ -49,19 +50,20 @@ fn what_differs_is_found() {
 
 /// A call of each entry point over as many sources as there may be.
 fn largest_calls() -> Vec<Call> {
+    const HALF: usize = MOST_SOURCES / 2;
     let mut random = Random::of(5, 0);
-    let draft = registers::valid_of(&mut random, 512);
-    let last = draft.sources[511].number;
+    let draft = registers::valid_of(&mut random, MOST_SOURCES);
+    let last = draft.sources[MOST_SOURCES - 1].number;
     let mut halves = [draft.clone(), draft.clone()];
-    halves[0].sources.truncate(256);
-    halves[1].sources.drain(..256);
-    let [first, second] = halves.map(|half| Call::calculate(&half.bytes(), 10_296).reply().buffer);
+    halves[0].sources.truncate(HALF);
+    halves[1].sources.drain(..HALF);
+    let [first, second] = halves.map(|half| Call::calculate(&half.bytes(), report_length(HALF)).reply().buffer);
     let register = draft.bytes();
-    let report = Call::calculate(&register, 20_536).reply().buffer;
+    let report = Call::calculate(&register, MOST_REPORT_LENGTH).reply().buffer;
     vec![
-        Call::calculate(&register, 20_536),
-        Call::combine(&first, &second, 20_536),
-        Call::remove(&report, last, 20_496),
+        Call::calculate(&register, MOST_REPORT_LENGTH),
+        Call::combine(&first, &second, MOST_REPORT_LENGTH),
+        Call::remove(&report, last, report_length(MOST_SOURCES - 1)),
         Call::check(&report),
         Call::text(&report, 65_536),
         Call::name(&register, last),

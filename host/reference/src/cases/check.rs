@@ -1,8 +1,9 @@
 //! Refusal 9, by the report check.
 
-use super::{accepted, group, refused, report_length, Case, Group};
+use super::{accepted, group, refused, Case, Group};
 use crate::call::Call;
 use crate::draft::edited;
+use crate::layout::{entry_at, figure_at, report_length, total_at, ENTRIES_AT, FIGURE_LENGTH, GASES};
 use crate::masses::Masses;
 use crate::report::{Entry, Report};
 
@@ -98,18 +99,18 @@ fn wrong_headers() -> Vec<Case> {
 fn wrong_lengths() -> Vec<Case> {
     let right = report(&[7, 8]);
     let longer = [&right[..], &[0]].concat();
-    let entry_more = [&right[..], &right[96..136]].concat();
+    let entry_more = [&right[..], &right[entry_at(1)..]].concat();
     let too_many = (1..=513).map(|number| entry(number, 1)).collect();
     vec![
         wrong("no bytes", vec![]),
         wrong("the tag alone", right[..4].to_vec()),
         wrong("55 bytes of an empty report", report(&[])[..55].to_vec()),
         wrong("57 bytes, an empty report in front", [&report(&[])[..], &[0]].concat()),
-        wrong("cut to the header", right[..56].to_vec()),
-        wrong("cut by an entry", right[..96].to_vec()),
-        wrong("cut by a byte", right[..135].to_vec()),
+        wrong("cut to the header", right[..ENTRIES_AT].to_vec()),
+        wrong("cut by an entry", right[..entry_at(1)].to_vec()),
+        wrong("cut by a byte", right[..right.len() - 1].to_vec()),
         wrong("one byte more", longer.clone()),
-        wrong("one byte more, and says so", edited(&longer, 16, 4, 137)),
+        wrong("one byte more, and says so", edited(&longer, 16, 4, longer.len() as u64)),
         wrong("an entry more, not counted", entry_more),
         wrong("513 entries", of_entries(too_many)),
     ]
@@ -117,10 +118,11 @@ fn wrong_lengths() -> Vec<Case> {
 
 fn wrong_entries() -> Vec<Case> {
     let method = |method| of_entries(vec![entry(1, 5), with_masses(2, method, 1, 2, 3)]);
-    let with = |place: usize, value| edited(&report(&[7, 8]), 96 + place, 1, value);
+    let with = |place: usize, value| edited(&report(&[7, 8]), entry_at(1) + place, 1, value);
     let stated = |equivalent| {
-        let report = edited(&of_entries(vec![with_masses(1, 2, 1, 2, 3)]), 56 + 32, 8, equivalent);
-        edited(&report, 48, 8, equivalent)
+        let report = of_entries(vec![with_masses(1, 2, 1, 2, 3)]);
+        let report = edited(&report, entry_at(0) + figure_at(GASES), FIGURE_LENGTH, equivalent);
+        edited(&report, total_at(GASES), FIGURE_LENGTH, equivalent)
     };
     vec![
         wrong("number 0", report(&[0, 7])),
@@ -150,12 +152,14 @@ fn wrong_entries() -> Vec<Case> {
 fn wrong_totals() -> Vec<Case> {
     let right = of_entries(vec![with_masses(1, 2, 5, 6, 7), with_masses(2, 2, 8, 9, 10)]);
     let mut cases = vec![];
-    for (gas, place, sum) in [("CO2", 24, 13), ("CH4", 32, 15), ("N2O", 40, 17), ("equivalent", 48, 5_454)] {
-        cases.push(wrong(format!("{gas}, one too small"), edited(&right, place, 8, sum - 1)));
-        cases.push(wrong(format!("{gas}, one too large"), edited(&right, place, 8, sum + 1)));
+    let sums = [("CO2", 13), ("CH4", 15), ("N2O", 17), ("equivalent", 5_454)];
+    for (figure, (name, sum)) in sums.into_iter().enumerate() {
+        let stated = |total| edited(&right, total_at(figure), FIGURE_LENGTH, total);
+        cases.push(wrong(format!("{name}, one too small"), stated(sum - 1)));
+        cases.push(wrong(format!("{name}, one too large"), stated(sum + 1)));
     }
-    cases.push(wrong("empty report with a total", edited(&report(&[]), 24, 8, 1)));
-    cases.push(wrong("a total's highest byte", edited(&right, 31, 1, 1)));
-    cases.push(accepted("totals that are the sums", Call::check(&right), report_length(2)));
+    cases.push(wrong("empty report with a total", edited(&report(&[]), total_at(0), FIGURE_LENGTH, 1)));
+    cases.push(wrong("a total's highest byte", edited(&right, total_at(1) - 1, 1, 1)));
+    cases.push(accepted("totals that are the sums", Call::check(&right), report_length(2) as u64));
     cases
 }

@@ -1,9 +1,10 @@
 //! Combining: refusals 9 to 12 and 8, and what is written.
 
 use super::check::{self, entry, largest, of_entries, report};
-use super::{accepted, group, refused, report_length, Case, Group, A_LITTLE_ROOM};
+use super::{accepted, group, refused, Case, Group, A_LITTLE_ROOM};
 use crate::call::Call;
 use crate::draft::edited;
+use crate::layout::{total_at, ENTRIES_AT, FIGURE_LENGTH, GASES};
 
 pub fn groups() -> Vec<Group> {
     vec![
@@ -17,9 +18,8 @@ pub fn groups() -> Vec<Group> {
 }
 
 fn joined(name: &str, first: &[u8], second: &[u8]) -> Case {
-    let entries = (first.len() + second.len() - 2 * 56) as u64 / 40;
-    let length = report_length(entries);
-    accepted(name, Call::combine(first, second, length as usize), length)
+    let length = first.len() + second.len() - ENTRIES_AT;
+    accepted(name, Call::combine(first, second, length), length as u64)
 }
 
 fn not_joined(name: &str, first: &[u8], second: &[u8], number: u64, place: u64) -> Case {
@@ -50,7 +50,7 @@ fn other_year(report: &[u8]) -> Vec<u8> {
 }
 
 fn malformed(report: &[u8]) -> Vec<u8> {
-    edited(report, 48, 8, 0)
+    edited(report, total_at(GASES), FIGURE_LENGTH, 0)
 }
 
 fn wrong() -> Vec<Case> {

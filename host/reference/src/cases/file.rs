@@ -9,10 +9,12 @@
 //! | 1 | the byte that fills the buffer |
 //! | 2-3 | zero |
 //! | 4-7 | number (remove, name, name of two), else 0 |
-//! | 8-11 | room: length of the buffer, at most 45,089; 0 for entry points without one |
-//! | 12-15 | length of the first input, at most 45,089 |
-//! | 16-19 | length of the second input, at most 45,089; 0 for entry points with one |
+//! | 8-11 | room: length of the buffer; 0 for entry points without one |
+//! | 12-15 | length of the first input |
+//! | 16-19 | length of the second input; 0 for entry points with one |
 //! | 20-63 | name, filled up with spaces |
+//!
+//! Room and inputs are at most one byte longer than the longest register.
 //!
 //! Output for a call is a line: the name's 44 bytes as they stand, then for each number of the answer a space and the
 //! number in decimals. Then what the buffer holds after the call, in lines of eight bytes, two hexadecimal digits a
@@ -101,5 +103,5 @@ fn listing_line(case: &Case) -> String {
         _ => lent += &format!(", room {}", call.room),
     }
     let entry = format!("{:?}", call.entry);
-    format!("  {:<44} {entry:<9} {lent}: {}\n", case.name, answer.join(" "))
+    format!("  {} {entry:<9} {lent}: {}\n", padded_name(case), answer.join(" "))
 }

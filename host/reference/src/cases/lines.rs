@@ -66,7 +66,7 @@ fn all_kinds() -> [Kind; 15] {
     ]
 }
 
-/// "A is at most 1,000,000 where the unit is tonne, else at most 99,999,999."
+/// "A is in millionths: at most 1,000,000 where the unit is tonne, else at most 99,999,999."
 fn most_content(unit: u8) -> u32 {
     match unit {
         1 => 1_000_000,

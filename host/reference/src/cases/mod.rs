@@ -19,6 +19,7 @@ pub use file::{calls, listing, output};
 
 use crate::call::Call;
 use crate::generator;
+use crate::layout::report_length;
 
 pub struct Case {
     pub name: String,
@@ -85,12 +86,8 @@ fn calculation_refused(name: impl Into<String>, register: &[u8], number: u64, pl
 }
 
 /// A calculation with just the room that its report takes.
-fn calculation_accepted(name: impl Into<String>, register: &[u8], sources: u64) -> Case {
+fn calculation_accepted(name: impl Into<String>, register: &[u8], sources: usize) -> Case {
     let length = report_length(sources);
-    let call = Call::calculate(register, length as usize);
-    accepted(name, call, length)
-}
-
-fn report_length(entries: u64) -> u64 {
-    56 + 40 * entries
+    let call = Call::calculate(register, length);
+    accepted(name, call, length as u64)
 }

@@ -2,7 +2,8 @@
 
 use super::{case, group, Case, Group};
 use crate::call::Call;
-use crate::draft::{boiler, boilers, edited, register, source_at, Draft};
+use crate::draft::{boiler, boilers, edited, register, Draft};
+use crate::layout::source_at;
 
 pub fn groups() -> Vec<Group> {
     vec![

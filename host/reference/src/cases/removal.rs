@@ -1,9 +1,10 @@
 //! Removal: refusals 9, 13 and 8, and what is written.
 
 use super::check::{largest, of_entries, report};
-use super::{accepted, group, refused, report_length, Case, Group, A_LITTLE_ROOM};
+use super::{accepted, group, refused, Case, Group, A_LITTLE_ROOM};
 use crate::call::Call;
 use crate::draft::edited;
+use crate::layout::{total_at, ENTRY_LENGTH, FIGURE_LENGTH};
 
 pub fn groups() -> Vec<Group> {
     vec![
@@ -15,8 +16,8 @@ pub fn groups() -> Vec<Group> {
 }
 
 fn without(name: &str, report: &[u8], number: u32) -> Case {
-    let length = (report.len() - 40) as u64;
-    accepted(name, Call::remove(report, number, length as usize), length)
+    let length = report.len() - ENTRY_LENGTH;
+    accepted(name, Call::remove(report, number, length), length as u64)
 }
 
 fn not_removed(name: &str, report: &[u8], number: u32, refusal: u64, place: u64) -> Case {
@@ -53,7 +54,7 @@ fn absent() -> Vec<Case> {
 }
 
 fn turns() -> Vec<Case> {
-    let malformed = edited(&report(&[3, 5]), 24, 8, 0);
+    let malformed = edited(&report(&[3, 5]), total_at(0), FIGURE_LENGTH, 0);
     vec![
         not_removed("malformed", &malformed, 3, 9, 1),
         not_removed("malformed, and the number absent", &malformed, 4, 9, 1),
@@ -68,8 +69,8 @@ fn rooms() -> Vec<Case> {
     vec![
         refused("one of two, no room", with(0), 8, 96),
         refused("one of two, one byte short", with(95), 8, 96),
-        accepted("one of two, one byte more", with(97).filled_with(0), report_length(1)),
-        accepted("one of two, room for both", with(136).filled_with(1), report_length(1)),
+        accepted("one of two, one byte more", with(97).filled_with(0), 96),
+        accepted("one of two, room for both", with(136).filled_with(1), 96),
         refused("the only one, one byte short", Call::remove(&report(&[3]), 3, 55), 8, 56),
     ]
 }

@@ -1,7 +1,8 @@
 //! Refusal 3.
 
 use super::{calculation_accepted, calculation_refused, group, Case, Group};
-use crate::draft::{boiler, boilers, edited, line, line_at, register, source, source_at, Draft};
+use crate::draft::{boiler, boilers, edited, line, register, source, Draft};
+use crate::layout::{line_at, source_at};
 use crate::register::Line;
 
 pub fn groups() -> Vec<Group> {

@@ -3,6 +3,7 @@
 use super::{accepted, calculation_accepted, group, refused, Case, Group};
 use crate::call::Call;
 use crate::draft::{boilers, Draft};
+use crate::layout::report_length;
 use crate::report::Report;
 use crate::sums::{by_hand, factors, printed, rounding, Known, Sum};
 
@@ -20,9 +21,9 @@ pub fn groups() -> Vec<Group> {
 fn known(sums: Vec<Sum>) -> Vec<Case> {
     sums.iter()
         .map(|sum| {
-            let call = Call::calculate(&sum.register(), 96);
+            let call = Call::calculate(&sum.register(), report_length(1));
             match sum.known {
-                Known::Grams(..) => accepted(sum.name, call, 96),
+                Known::Grams(..) => accepted(sum.name, call, report_length(1) as u64),
                 Known::Refused(number) => refused(sum.name, call, number.into(), 0),
             }
         })
@@ -38,7 +39,7 @@ fn empty() -> Draft {
 }
 
 fn example() -> Vec<Case> {
-    let mut report = [0; 136];
+    let mut report = [0; report_length(2)];
     crate::calls::calculate(&two_boilers(), &mut report);
     let nothing = Report::of(2023, vec![]).bytes();
     vec![

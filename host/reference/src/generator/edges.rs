@@ -3,7 +3,8 @@
 use super::random::Random;
 use super::registers;
 use crate::draft::{line, source, Draft, DraftSource};
-use crate::masses::MOST_EQUIVALENT;
+use crate::masses::{MOST_EQUIVALENT, WARMING};
+use crate::methods::MOST_QUANTITY;
 use crate::register::Line;
 
 /// A register with a source at an edge among valid ones.
@@ -78,8 +79,9 @@ fn zero_of_cement(random: &mut Random) -> DraftSource {
 
 /// A flare with methane and CO2 of an equivalent of 10^15, or a gram more or less.
 fn limit(random: &mut Random) -> DraftSource {
-    let ch4 = random.near_ends(0..=40_000_000_000_000);
-    let co2 = MOST_EQUIVALENT as u64 - 25 * ch4;
+    let [_, of_ch4, ..] = WARMING;
+    let ch4 = random.near_ends(0..=MOST_EQUIVALENT as u64 / of_ch4);
+    let co2 = MOST_EQUIVALENT as u64 - of_ch4 * ch4;
     let co2 = (co2 + random.below(3)).saturating_sub(1);
     source(1, 2, 0, &[methane_lines(ch4), carbon_lines(co2)].concat())
 }
@@ -87,9 +89,8 @@ fn limit(random: &mut Random) -> DraftSource {
 /// Flare lines whose Q A are together a number below 10^18: a line of the largest quantity, and one of the least
 /// content.
 fn lines_of_product(kind: u8, b: u32, product: u64) -> Vec<Line> {
-    let most = 10_000_000_000;
-    let large = line(kind, 2, 0, (product / most) as u32, b, most);
-    vec![large, line(kind, 2, 0, 1, b, product % most)]
+    let large = line(kind, 2, 0, (product / MOST_QUANTITY) as u32, b, MOST_QUANTITY);
+    vec![large, line(kind, 2, 0, 1, b, product % MOST_QUANTITY)]
 }
 
 fn methane_lines(grams: u64) -> Vec<Line> {

@@ -3,8 +3,12 @@
 
 use super::random::Random;
 use super::spoil::{move_by_one, put};
-use crate::draft::{line, line_at, source, source_at, Draft, DraftSource};
-use crate::methods::{row_of, TABLE};
+use crate::draft::{line, source, Draft, DraftSource};
+use crate::layout::{
+    line_at, source_at, METHODS, MOST_LINES, MOST_NAME_BYTES, MOST_SOURCES, NAME_LENGTHS, REGISTER_LAYOUT, SOURCES_AT,
+    YEARS,
+};
+use crate::methods::{most_a, row_of, MOST_QUANTITY, TABLE};
 use crate::register::Line;
 
 /// A fault: the refusal that it gives alone, and how it spoils.
@@ -45,8 +49,8 @@ impl Bytes {
     }
 }
 
-/// A register with the faults. What a plant states is spoilt before the bytes are, and cutting below 32 bytes comes
-/// last.
+/// A register with the faults. What a plant states is spoilt before the bytes are, and cutting below a header's
+/// length comes last.
 pub fn spoilt(mut draft: Draft, faults: &[&Fault], random: &mut Random) -> Vec<u8> {
     let mut faults = faults.to_vec();
     faults.sort_by_key(|fault| std::cmp::Reverse(fault.refusal));
@@ -92,32 +96,32 @@ const fn of_line(spoil: fn(&mut Line, Owner, &mut Random)) -> Fault {
 
 pub static FAULTS: [Fault; 39] = [
     // too short
-    of_bytes(1, |b, r| b.bytes.truncate(r.index(32))),
+    of_bytes(1, |b, r| b.bytes.truncate(r.index(SOURCES_AT))),
     // tag, layout, year, counts, offsets, whole length
     of_bytes(2, |b, r| b.put(r.index(4), 1, u64::from(r.byte() | 0x80))),
-    of_bytes(2, |b, r| b.put(4, 2, r.pick(&[0, 2, 257, 65_535]))),
-    of_bytes(2, |b, r| b.put(6, 2, r.pick(&[0, 1989, 2101, 65_535]))),
-    of_bytes(2, |b, r| b.put(8, 2, r.pick(&[513, 514, 65_535]))),
+    of_bytes(2, |b, r| b.put(4, 2, r.pick(&[0, REGISTER_LAYOUT + 1, REGISTER_LAYOUT + 256, 65_535]))),
+    of_bytes(2, |b, r| b.put(6, 2, r.pick(&[0, YEARS.start() - 1, YEARS.end() + 1, 65_535]))),
+    of_bytes(2, |b, r| b.put(8, 2, r.pick(&[MOST_SOURCES as u64 + 1, MOST_SOURCES as u64 + 2, 65_535]))),
     of_bytes(2, |b, r| b.move_by_one(8, 2, r)),
-    of_bytes(2, |b, r| b.put(10, 2, r.pick(&[1_025, 1_026, 65_535]))),
+    of_bytes(2, |b, r| b.put(10, 2, r.pick(&[MOST_LINES as u64 + 1, MOST_LINES as u64 + 2, 65_535]))),
     of_bytes(2, |b, r| b.move_by_one(10, 2, r)),
-    of_bytes(2, |b, r| b.put(12, 4, r.pick(&[16_385, 65_536, 0xFFFF_FFFF]))),
+    of_bytes(2, |b, r| b.put(12, 4, r.pick(&[MOST_NAME_BYTES as u64 + 1, 65_536, 0xFFFF_FFFF]))),
     of_bytes(2, |b, r| b.move_by_one(12, 4, r)),
-    of_bytes(2, |b, r| b.put(16, 4, r.pick(&[0, 31, 33, 0xFFFF_FFFF]))),
+    of_bytes(2, |b, r| b.put(16, 4, r.pick(&[0, SOURCES_AT as u64 - 1, SOURCES_AT as u64 + 1, 0xFFFF_FFFF]))),
     of_bytes(2, |b, r| b.move_by_one(20, 4, r)),
     of_bytes(2, |b, r| b.move_by_one(24, 4, r)),
     of_bytes(2, |b, r| b.move_by_one(28, 4, r)),
     // the bytes lent
-    of_bytes(2, |b, r| b.bytes.truncate(r.between(32..=b.bytes.len().max(33) as u64 - 1) as usize)),
+    of_bytes(2, |b, r| b.bytes.truncate(SOURCES_AT + r.index(b.bytes.len().max(SOURCES_AT + 1) - SOURCES_AT))),
     of_bytes(2, |b, r| b.bytes.extend(vec![r.byte(); 1 + r.index(40)])),
     // a source entry
     of_bytes(3, |b, r| b.put(b.of_an_entry(0, r), 4, 0)),
-    of_bytes(3, |b, r| b.put(b.of_an_entry(4, r), 1, r.pick(&[0, 7, 255]))),
+    of_bytes(3, |b, r| b.put(b.of_an_entry(4, r), 1, r.pick(&[0, METHODS.end() + 1, 255]))),
     of_bytes(3, |b, r| b.put(b.of_an_entry(5, r), 1, r.pick(&[7, 255]))),
-    of_bytes(3, |b, r| b.put(b.of_an_entry(6, r), 2, r.pick(&[0, 1_025, 65_535]))),
+    of_bytes(3, |b, r| b.put(b.of_an_entry(6, r), 2, r.pick(&[0, MOST_LINES as u64 + 1, 65_535]))),
     of_bytes(3, |b, r| b.move_by_one(b.of_an_entry(6, r), 2, r)),
     of_bytes(3, |b, r| b.move_by_one(b.of_an_entry(8, r), 2, r)),
-    of_bytes(3, |b, r| b.put(b.of_an_entry(10, r), 2, r.pick(&[0, 65, 65_535]))),
+    of_bytes(3, |b, r| b.put(b.of_an_entry(10, r), 2, r.pick(&[0, NAME_LENGTHS.end() + 1, 65_535]))),
     of_bytes(3, |b, r| b.move_by_one(b.of_an_entry(10, r), 2, r)),
     of_bytes(3, |b, r| b.move_by_one(b.of_an_entry(12, r), 4, r)),
     of_bytes(3, |b, r| b.put(line_at(b.sources, b.lines) + r.index(2), 1, r.pick(&[0, 10, 31, 127]))),
@@ -131,10 +135,10 @@ pub static FAULTS: [Fault; 39] = [
     of_line(strange_kind),
     of_line(strange_unit),
     of_line(|l, _, r| l.code = r.pick(&[5, 256, 65_535])),
-    of_line(|l, _, r| l.a = if l.unit == 1 { 1_000_001 } else { 100_000_000 } + r.below(2) as u32 * 7),
+    of_line(|l, _, r| l.a = most_a(l.unit) + 1 + r.below(2) as u32 * 7),
     of_line(narrower_than_the_range),
     of_line(|l, _, r| l.b = r.pick(&[10_001, u32::MAX])),
-    of_line(|l, _, r| l.quantity = r.pick(&[10_000_000_001, 1 << 40, u64::MAX])),
+    of_line(|l, _, r| l.quantity = r.pick(&[MOST_QUANTITY + 1, 1 << 40, u64::MAX])),
     // sums
     of_draft(6, |d, r| add_source(d, 3, line(11, 1, 0, 1, 10_000, 1), r)),
     of_draft(7, |d, r| add_source(d, 2, line(2, 2, 0, 4_000_001, 10_000, 10_000_000_000), r)),
@@ -175,7 +179,7 @@ fn narrower_than_the_range(line: &mut Line, (method, parameter): Owner, random: 
 
 fn add_source(draft: &mut Draft, method: u8, line: Line, random: &mut Random) {
     let is_free = |&number: &u32| draft.sources.iter().all(|source| source.number != number);
-    let number = (1..).find(is_free).expect("512 sources leave numbers free");
+    let number = (1..).find(is_free).expect("so few sources leave numbers free");
     let place = random.index(draft.sources.len() + 1);
     draft.sources.insert(place, source(number, method, 0, &[line]));
 }

@@ -4,8 +4,9 @@ use std::ops::RangeInclusive;
 
 use super::random::Random;
 use crate::draft::{register, Draft, DraftSource};
+use crate::layout::{MOST_LINES, MOST_NAME_BYTES, MOST_SOURCES, NAME_LENGTHS, YEARS};
 use crate::masses::{masses_of, Unfit};
-use crate::methods::{Row, TABLE};
+use crate::methods::{most_a, Row, MOST_QUANTITY, TABLE};
 use crate::register::Line;
 
 /// How many sources a register has, and how many lines and name bytes each of them.
@@ -18,13 +19,13 @@ struct Size {
 pub fn valid(random: &mut Random) -> Draft {
     let size = size(random);
     let numbers = numbers(random, size.sources);
-    let year = random.near_ends(1990..=2100) as u16;
+    let year = random.near_ends(YEARS) as u16;
     register(year, numbers.into_iter().map(|number| valid_source(random, number, &size)).collect())
 }
 
 /// A valid register with some sources, so that a fault finds something to spoil.
 pub fn valid_of_some(random: &mut Random) -> Draft {
-    let size = Size { sources: 2 + random.index(6), lines: 1..=4, name_bytes: 1..=64 };
+    let size = Size { sources: 2 + random.index(6), lines: 1..=4, name_bytes: NAME_LENGTHS };
     let numbers = numbers(random, size.sources);
     register(2023, numbers.into_iter().map(|number| valid_source(random, number, &size)).collect())
 }
@@ -36,15 +37,20 @@ pub fn valid_of(random: &mut Random, sources: usize) -> Draft {
     register(2023, numbers.into_iter().map(|number| valid_source(random, number, &size)).collect())
 }
 
+/// Lines and name bytes of each source, where a register has the most of all three.
+const LINES_OF_FULL: u64 = (MOST_LINES / MOST_SOURCES) as u64;
+const NAME_BYTES_OF_FULL: u64 = (MOST_NAME_BYTES / MOST_SOURCES) as u64;
+
 fn size(random: &mut Random) -> Size {
+    let full = |lines, name_bytes| Size { sources: MOST_SOURCES, lines, name_bytes };
     match random.below(64) {
         0 => Size { sources: 0, lines: 1..=1, name_bytes: 1..=1 },
-        1 => Size { sources: 1, lines: 1..=1_024, name_bytes: 1..=64 },
-        2 => Size { sources: 512, lines: 1..=2, name_bytes: 1..=32 },
-        3 => Size { sources: 512, lines: 2..=2, name_bytes: 32..=32 },
-        4 => Size { sources: 100 + random.index(156), lines: 1..=4, name_bytes: 1..=64 },
-        5..=20 => Size { sources: 1, lines: 1..=6, name_bytes: 1..=64 },
-        _ => Size { sources: 2 + random.index(10), lines: 1..=6, name_bytes: 1..=64 },
+        1 => Size { sources: 1, lines: 1..=MOST_LINES as u64, name_bytes: NAME_LENGTHS },
+        2 => full(1..=LINES_OF_FULL, 1..=NAME_BYTES_OF_FULL),
+        3 => full(LINES_OF_FULL..=LINES_OF_FULL, NAME_BYTES_OF_FULL..=NAME_BYTES_OF_FULL),
+        4 => Size { sources: 100 + random.index(156), lines: 1..=4, name_bytes: NAME_LENGTHS },
+        5..=20 => Size { sources: 1, lines: 1..=6, name_bytes: NAME_LENGTHS },
+        _ => Size { sources: 2 + random.index(10), lines: 1..=6, name_bytes: NAME_LENGTHS },
     }
 }
 
@@ -90,14 +96,13 @@ fn right_line(random: &mut Random, method: u8, parameter: u8) -> Line {
         TABLE.iter().filter(|row| row.method == method && row.parameters.contains(&parameter)).collect();
     let row = random.pick(&rows);
     let unit = random.pick(row.units);
-    let most_a = if unit == 1 { 1_000_000 } else { 99_999_999 };
     Line {
         kind: random.pick(row.kinds),
         unit,
         code: random.near_ends(u64::from(*row.codes.start())..=u64::from(*row.codes.end())) as u16,
-        a: random.near_ends(0..=u64::from(*row.a.end()).min(most_a)) as u32,
+        a: random.near_ends(0..=u64::from(*row.a.end().min(&most_a(unit)))) as u32,
         b: random.near_ends(u64::from(*row.b.start())..=u64::from(*row.b.end())) as u32,
-        quantity: random.near_ends(0..=10_000_000_000),
+        quantity: random.near_ends(0..=MOST_QUANTITY),
     }
 }
 

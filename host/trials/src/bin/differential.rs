@@ -7,6 +7,7 @@
 
 use std::process::ExitCode;
 
+use reference::answers::LAST_REFUSAL;
 use trials::compared::generated;
 use trials::demand3::dealings;
 use trials::lent::Around;
@@ -37,7 +38,7 @@ fn tried(seed: &str, calls: &str, around: Around) -> Result<(), String> {
     for (answer, count) in &counts {
         println!("{answer:>7} {count:>9}");
     }
-    if let Some(missing) = (0..=13).find(|number| !counts.contains_key(&format!("{number:>2}"))) {
+    if let Some(missing) = (0..=LAST_REFUSAL).find(|number| !counts.contains_key(&format!("{number:>2}"))) {
         return Err(format!("no call was answered with {missing}"));
     }
     dealings(proved, seed, calls / 100)?;

@@ -6,6 +6,7 @@ use reference::call::Call;
 use reference::cases::{self, Case, Group};
 use reference::draft::register;
 use reference::generator::{registers, Random};
+use reference::layout::{report_length, MOST_SOURCES};
 
 /// A call and how many sources it goes over. The inputs are a pool, so that no branch is learnt.
 pub struct Row {
@@ -14,19 +15,18 @@ pub struct Row {
     call: fn(&mut Random, usize) -> Call,
 }
 
-const MOST: usize = 512;
 const SEED: u64 = 1;
 
 pub const ROWS: [Row; 9] = [
     Row { name: "calculate 1", sources: 1, call: calculation },
     Row { name: "calculate 8", sources: 8, call: calculation },
     Row { name: "calculate 64", sources: 64, call: calculation },
-    Row { name: "calculate 512", sources: MOST, call: calculation },
-    Row { name: "combine 256 + 256", sources: MOST, call: combination },
-    Row { name: "remove from 512", sources: MOST, call: removal },
-    Row { name: "check 512", sources: MOST, call: |random, sources| Call::check(&report(random, sources)) },
-    Row { name: "name, last of 512", sources: MOST, call: last_name },
-    Row { name: "text of 512", sources: MOST, call: text },
+    Row { name: "calculate 512", sources: MOST_SOURCES, call: calculation },
+    Row { name: "combine 256 + 256", sources: MOST_SOURCES, call: combination },
+    Row { name: "remove from 512", sources: MOST_SOURCES, call: removal },
+    Row { name: "check 512", sources: MOST_SOURCES, call: |random, sources| Call::check(&report(random, sources)) },
+    Row { name: "name, last of 512", sources: MOST_SOURCES, call: last_name },
+    Row { name: "text of 512", sources: MOST_SOURCES, call: text },
 ];
 
 impl Row {
@@ -48,13 +48,9 @@ pub fn write_file(row: &str, count: usize) {
     std::io::stdout().write_all(&cases::calls(&[group])).expect("standard output takes the file");
 }
 
-fn report_bytes(entries: usize) -> usize {
-    56 + 40 * entries
-}
-
 fn calculation(random: &mut Random, sources: usize) -> Call {
     let register = registers::valid_of(random, sources).bytes();
-    Call::calculate(&register, report_bytes(sources))
+    Call::calculate(&register, report_length(sources))
 }
 
 fn report(random: &mut Random, sources: usize) -> Vec<u8> {
@@ -66,17 +62,17 @@ fn combination(random: &mut Random, sources: usize) -> Call {
     let mut whole = registers::valid_of(random, sources);
     let second = whole.sources.split_off(sources / 2);
     let [first, second] = [whole.sources, second].map(|sources| {
-        let room = report_bytes(sources.len());
+        let room = report_length(sources.len());
         Call::calculate(&register(whole.year, sources).bytes(), room).reply().buffer
     });
-    Call::combine(&first, &second, report_bytes(sources))
+    Call::combine(&first, &second, report_length(sources))
 }
 
 fn removal(random: &mut Random, sources: usize) -> Call {
     let draft = registers::valid_of(random, sources);
     let number = draft.sources[random.index(sources)].number;
-    let report = Call::calculate(&draft.bytes(), report_bytes(sources)).reply().buffer;
-    Call::remove(&report, number, report_bytes(sources - 1))
+    let report = Call::calculate(&draft.bytes(), report_length(sources)).reply().buffer;
+    Call::remove(&report, number, report_length(sources - 1))
 }
 
 fn last_name(random: &mut Random, sources: usize) -> Call {

@@ -1,0 +1,90 @@
+//! How document 01 lays out registers and reports: limits, lengths and places, each stated once, and what follows from
+//! them.
+
+use std::ops::RangeInclusive;
+
+/// "year | 1990 to 2100", of a register and of a report.
+pub const YEARS: RangeInclusive<u64> = 1990..=2100;
+
+/// "sources n | 0 to 512"; of a report "n at most 512".
+pub const MOST_SOURCES: usize = 512;
+
+/// "lines m | 0 to 1,024"
+pub const MOST_LINES: usize = 1_024;
+
+/// "name bytes t | 0 to 16,384"
+pub const MOST_NAME_BYTES: usize = 16_384;
+
+/// "name length (2, 1 to 64)"
+pub const NAME_LENGTHS: RangeInclusive<u64> = 1..=64;
+
+/// "layout | 1", of a register.
+pub const REGISTER_LAYOUT: u64 = 1;
+
+/// "offset of sources | 32": where a register's header ends.
+pub const SOURCES_AT: usize = 32;
+
+/// "Source entry, 16 bytes"
+pub const SOURCE_LENGTH: usize = 16;
+
+/// "Line, 20 bytes"
+pub const LINE_LENGTH: usize = 20;
+
+/// "whole length | 32 + 16n + 20m + t", at its largest.
+pub const MOST_REGISTER_LENGTH: usize = line_at(MOST_SOURCES, MOST_LINES) + MOST_NAME_BYTES;
+
+/// "layout 1", of a report.
+pub const REPORT_LAYOUT: u64 = 1;
+
+/// "methods 1 to 6"
+pub const METHODS: RangeInclusive<u64> = 1..=6;
+
+/// CO2, CH4 and N2O, in this order.
+pub const GASES: usize = 3;
+
+/// "CO2, CH4, N2O, CO2-equivalent (8 each)", of an entry and in the totals: the gases, and the equivalent last.
+pub const FIGURES: usize = GASES + 1;
+pub const FIGURE_LENGTH: usize = 8;
+
+/// Where the totals begin in a report, and the figures in an entry: with them the header and the entry end.
+pub const TOTALS_AT: usize = 24;
+pub const FIGURES_AT: usize = 8;
+
+/// "offset of entries 56"
+pub const ENTRIES_AT: usize = total_at(FIGURES);
+
+/// "Entries are 40 bytes"
+pub const ENTRY_LENGTH: usize = figure_at(FIGURES);
+
+/// The length of the longest report.
+pub const MOST_REPORT_LENGTH: usize = report_length(MOST_SOURCES);
+
+/// Where a source entry begins in a register.
+pub const fn source_at(index: usize) -> usize {
+    SOURCES_AT + SOURCE_LENGTH * index
+}
+
+/// Where a line begins in a register of so many sources; behind the last line stand the names.
+pub const fn line_at(sources: usize, index: usize) -> usize {
+    source_at(sources) + LINE_LENGTH * index
+}
+
+/// Where a total begins in a report.
+pub const fn total_at(figure: usize) -> usize {
+    TOTALS_AT + FIGURE_LENGTH * figure
+}
+
+/// Where an entry begins in a report.
+pub const fn entry_at(index: usize) -> usize {
+    ENTRIES_AT + ENTRY_LENGTH * index
+}
+
+/// Where a figure begins in an entry.
+pub const fn figure_at(figure: usize) -> usize {
+    FIGURES_AT + FIGURE_LENGTH * figure
+}
+
+/// "whole length 56 + 40n"
+pub const fn report_length(entries: usize) -> usize {
+    entry_at(entries)
+}
