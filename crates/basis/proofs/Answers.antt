@@ -3,7 +3,7 @@ use mathlib.Core.Bool.{Bool, true, false}
 use mathlib.Core.List.{List, [], _∷_, _++_, map}
 use mathlib.Core.Logic.{_↔_}
 use mathlib.Core.Path.{_≡_, refl, sym, _∙_}
-use Prim.Native.Nat.{ℕ, zero, suc, _+_, _<_, zero-le, suc-le-suc}
+use Prim.Native.Nat.{ℕ, zero, suc, _+_, _≤_, _<_, zero-le, suc-le-suc}
 use native.Mathlib.Nat.{zero-add, le-of-suc-le-suc, not-suc-le-zero}
 use native.Mathlib.Omega.{arith}
 use lib.Dec.{ltb}
@@ -111,6 +111,10 @@ pub passed-if : (b : Bool) (n p : ℕ) → refuseIf b n p ≡ Passes → b ≡ f
 passed-if true n p e = absurd (never (sym e))
 passed-if false n p e = refl
 
+-- room that passes its test
+pub room-there : (room needed : ℕ) {v : Verdict} → v ≡ refuseIf (ltb room needed) 8 needed → v ≡ Passes → needed ≤ room
+room-there room needed e t = ltb-false room needed (passed-if (ltb room needed) 8 needed (sym e ∙ t))
+
 pub if-passed : (b : Bool) (n p : ℕ) → b ≡ false → refuseIf b n p ≡ Passes
 if-passed b n p e = rw e
 
@@ -169,7 +173,11 @@ refuse-each number wrong count = rw (zero-add count) at (refuse-from number wron
 pub coincide : {o : Outcome} {a a′ : Answer} {bs bs′ : List ℕ} → Gives o a bs → Gives o a′ bs′ → (a ≡ a′) × (bs ≡ bs′)
 coincide g g′ = (g .answers ∙ sym (g′ .answers), g .leaves ∙ sym (g′ .leaves))
 
--- and two parts
+-- an answer that is handed on gives what it gave
+pub handed-on : {o : Outcome} {a b : Answer} {bytes : List ℕ} → Gives o a bytes → b ≡ a → Gives o b bytes
+handed-on g e = record { answers = e ∙ g .answers; leaves = g .leaves }
+
+-- two parts that a promise permits are one
 pub coincide-part : {A : Type 0} {bytes : List ℕ} {base : A} {start offset size : ℕ} {held held′ : List ℕ} {place place′ : A × ℕ}
     → Shows bytes base start offset size held place → Shows bytes base start offset size held′ place′ → (held ≡ held′) × (place ≡ place′)
 coincide-part s s′ = (s .holds ∙ sym (s′ .holds), s .stands ∙ sym (s′ .stands))

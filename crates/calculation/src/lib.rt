@@ -16,7 +16,7 @@ use mass_exact::FIGURES;
 use register_header::MOST_SOURCES;
 
 // Rooms for one source, for so few and for so many, so that no call clears much more room than it wants. In the next larger room one source takes
-// 4 % more time, and nine sources 22 %.
+// 7 % more time on aarch64 and 2 % on x86-64, nine sources 26 % and 22 %.
 const FEW_SOURCES: usize = 8;
 
 const SOME_SOURCES: usize = 64;

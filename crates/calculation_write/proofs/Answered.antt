@@ -19,7 +19,7 @@ use Rattle.meaning.proofs.Calls.{short-gives, made-gives}
 use Rattle.meaning.proofs.Laws.{one-entry-each}
 use Rattle.meaning.proofs.Lengths.{Massed, source-massed, length-report}
 use Rattle.meaning.proofs.Sources.{length-sources}
-use Rattle.answer.proofs.Laws.{room-there}
+use Rattle.basis.proofs.Answers.{room-there}
 use Rattle.register_order.proofs.Tested.{passed-headed}
 use Rattle.calculation_write.specs.Ready.{Ready}
 

@@ -3,28 +3,21 @@ use mathlib.Core.List.{List, [], _∷_, _++_}
 use mathlib.Core.Path.{_≡_, refl, sym, ap, _∙_}
 use Prim.Native.Nat.{ℕ, _≤_}
 use native.Mathlib.Omega.{arith}
-use borrow.Author.Tests.{ltb-false}
-use lib.Dec.{ltb}
 use lib.ListN.{length, take}
 use Rattle.basis.specs.declared.Answer.{Answer}
 use Rattle.basis.specs.declared.Verdict.{Verdict}
 use Rattle.basis.specs.declared.Verdict.the-variants.{Passes, Refuses}
 use Rattle.basis.specs.Answers.{firstRefusal, settled, Gives}
 use Rattle.basis.specs.Bytes.{splice, Written}
-use Rattle.basis.proofs.Answers.{each-passes, passed-append, passed-if}
 use Rattle.basis.proofs.Bytes.{splice-none}
 use Rattle.meaning.specs.Text.{refusedLine, acceptedLine}
 use Rattle.meaning.specs.Calls.{roomTest, written, formTest, text}
 use Rattle.meaning.specs.Programs.{said, answerLine, textOutput}
+use Rattle.meaning.proofs.Calls.{room-passed}
 use Rattle.meaning.proofs.Programs.{said-made, said-refused}
 use Rattle.decimal_write.specs.Digits.{Fronted}
 use Rattle.decimal_write.proofs.Fields.{front-is, fronted}
 use Rattle.report_text.specs.Rows.{textOf}
-
-room-passed : (tests : List Verdict) (made buffer : List ℕ) → firstRefusal (tests ++ (roomTest made buffer ∷ [])) ≡ Passes → length made ≤ length buffer
-room-passed tests made buffer e =
-    let v = each-passes (roomTest made buffer ∷ []) (passed-append tests (roomTest made buffer ∷ []) e .1) .0 in
-    ltb-false (length buffer) (length made) (passed-if (ltb (length buffer) (length made)) 8 (length made) v)
 
 settled-front : (v : Verdict) (made buffer : List ℕ) {a : Answer} {left : List ℕ} → (v ≡ Passes → length made ≤ length buffer)
     → Gives (settled v made buffer) a left → Fronted buffer (take (a .length) left) left (a .length)

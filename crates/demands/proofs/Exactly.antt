@@ -8,7 +8,6 @@ use native.Mathlib.Nat.{zero-add}
 use native.Mathlib.Omega.{arith}
 use lib.Dec.{ltb}
 use lib.ListN.{length, drop}
-use borrow.Author.Tests.{ltb-false}
 use Rattle.basis.specs.Bytes.{splice}
 use Rattle.basis.specs.Lists.{Each}
 use Rattle.basis.specs.declared.Answer.{Answer}
@@ -16,10 +15,11 @@ use Rattle.basis.specs.declared.Verdict.{Verdict}
 use Rattle.basis.specs.declared.Verdict.the-variants.{Passes, Refuses}
 use Rattle.basis.specs.First.{first}
 use Rattle.basis.specs.Answers.{refuseIf, firstRefusal, answer, settled}
-use Rattle.basis.proofs.Answers.{never, refuses-number, refuses-place, refuses-both, refused-at-first, each-passes, passed-append, passed-if}
+use Rattle.basis.proofs.Answers.{never, refuses-number, refuses-place, refuses-both, refused-at-first}
 use Rattle.basis.proofs.Bytes.{length-splice}
 use Rattle.basis.proofs.Bools.{clash, not-both}
 use Rattle.meaning.specs.Calls.{roomTest, written}
+use Rattle.meaning.proofs.Calls.{room-passed}
 use Rattle.demands.specs.Demand1.{FromTable, Answers}
 use Rattle.demands.specs.Table.{Among}
 use Rattle.demands.specs.Exactly.{Row, Nowhere, at, atSmallest, FirstOf, Exactly}
@@ -165,9 +165,7 @@ answers tests ns rows made buffer d z =
   where
     by : (v : Verdict) → firstRefusal (tests ++ (roomTest made buffer ∷ [])) ≡ v → Answers ns buffer (settled v made buffer)
     by Passes h =
-        let r = each-passes (roomTest made buffer ∷ []) (passed-append tests (roomTest made buffer ∷ []) h .1) in
-        let l = ltb-false (length buffer) (length made) (passed-if (ltb (length buffer) (length made)) 8 (length made) (r .0)) in
-        record { fromTable = inl (refl, refl); held = λ n. absurd (n refl); sized = length-splice buffer 0 made (omega arith) }
+        record { fromTable = inl (refl, refl); held = λ n. absurd (n refl); sized = length-splice buffer 0 made (omega (arith, room-passed tests made buffer h)) }
     by (Refuses n p) h =
         record {
           fromTable = inr (first-among ns rows (z .among) n p (first-decides (tests ++ (roomTest made buffer ∷ [])) rows d n p .0 h), refl);

@@ -14,7 +14,7 @@ use Rattle.basis.proofs.Bools.{or-false}
 use Rattle.basis.proofs.Counting.{zeros-front}
 use Rattle.hash_repeats.specs.declared.Standing.{Standing}
 use Rattle.hash_repeats.specs.declared.Standing.the-variants.{Twice, Open}
-use Rattle.hash_repeats.specs.Repeats.{Differing, Nonzero, Says, probes, slotCount, homeOf, Home, Empty, Probed}
+use Rattle.hash_repeats.specs.Repeats.{Nonzero, probes, slotCount, homeOf, Home, Empty, Probed, Taken, Met, Inserted}
 
 -- x stands in its home slot or behind it, with no free slot between
 pub record Stands (slots : List ℕ) (x : ℕ) : Type 0 where
@@ -61,7 +61,7 @@ module _ (t : List ℕ) (at x : ℕ) (free : getD t at 0 ≡ 0) where
         taken = λ q l m. still q (p .taken q l m);
       }
 
-pub home-is : (x : ℕ) → Home x (x % 4294967296 * 2654435769 % 4294967296 / 4194304)
+pub home-is : (x : ℕ) → Home x (x * 2654435769 % 4294967296 / 4194304)
 unfolding homeOf
 home-is x = record { is = refl; low = omega arith }
 
@@ -115,6 +115,18 @@ probe-more {t} {x} {home} {at} p l e =
 
 pub ruleset probing = (home-is, probe-none, probe-more)
 
+-- no number stands at two indices
+pub record Differing (ns : List ℕ) : Type 0 where
+  pub differ : (j k : ℕ) → j < k → k < length ns → getD ns j 0 ≢ getD ns k 0
+
+-- the number at an index stands at an earlier one too
+pub record Repeating (ns : List ℕ) : Type 0 where
+  pub early : ℕ
+  pub late : ℕ
+  pub before : early < late
+  pub within : late < length ns
+  pub same : getD ns early 0 ≡ getD ns late 0
+
 -- the numbers before i stand in the table, none twice, and no other does
 pub record InTable (ns t : List ℕ) (i : ℕ) : Type 0 where
   pub nonzero : Nonzero ns
@@ -148,37 +160,45 @@ module _ {ns t : List ℕ} {i : ℕ} (k : InTable ns t i) where
           let r = k .only p (λ g. h (e ∙ g)) in
           (r .0, omega (arith, r .1), r .2 ∙ sym e)
 
-  pub insert-more : {at : ℕ} → i < length ns → Probed t (getD ns i 0) at → not (eqb (getD t at 0) 0) ≡ false
-      → InTable ns (set t at (getD ns i 0)) (i + 1)
-  insert-more {at} l p e =
-      let x = getD ns i 0 in
-      let free : getD t at 0 ≡ 0 = eqb-true (getD t at 0) 0 (not-false (eqb (getD t at 0) 0) e) in
-      let last : Stands (set t at x) x = comes t at x free (k .nonzero .some i l) p in
-      let new : (j : ℕ) → j < i → getD ns j 0 ≢ x = λ j m f. probed-new p free (rw f at (k .each j m)) in
-      record {
-        nonzero = k .nonzero;
-        high = omega arith;
-        all = length-set t at x ∙ k .all;
-        once = λ j m a b. further (λ q. getD ns j 0 ≢ getD ns q 0) {from = j + 1} (λ q d. k .once j q (omega arith)) (new j (omega arith)) m (omega arith) b;
-        each = λ j. further (λ q. Stands (set t at x) (getD ns q 0)) {from = 0} (λ q _ m. stays t at x free (k .each q m)) last j (omega arith);
-        only = only-more at (p .room);
-      }
+  pub insert-more : {x : ℕ} {u : List ℕ} → i < length ns → x ≡ getD ns i 0 → Taken t x u → InTable ns u (i + 1)
+  insert-more l e q = rw (q .is, e) (more (q .slot) (rw e at (q .probed)) (q .free))
+    where
+      more : (at : ℕ) → Probed t (getD ns i 0) at → getD t at 0 ≡ 0 → InTable ns (set t at (getD ns i 0)) (i + 1)
+      more at p free =
+          let x = getD ns i 0 in
+          let last : Stands (set t at x) x = comes t at x free (k .nonzero .some i l) p in
+          let new : (j : ℕ) → j < i → getD ns j 0 ≢ x = λ j m f. probed-new p free (rw f at (k .each j m)) in
+          record {
+            nonzero = k .nonzero;
+            high = omega arith;
+            all = length-set t at x ∙ k .all;
+            once = λ j m a b. further (λ q. getD ns j 0 ≢ getD ns q 0) {from = j + 1} (λ q d. k .once j q (omega arith)) (new j (omega arith)) m (omega arith) b;
+            each = λ j. further (λ q. Stands (set t at x) (getD ns q 0)) {from = 0} (λ q _ m. stays t at x free (k .each q m)) last j (omega arith);
+            only = only-more at (p .room);
+          }
 
   pub insert-all : length ns ≤ i → Differing ns
   insert-all l = record { differ = λ j m a b. k .once j m a (omega arith) }
 
-  -- a number that stands there already stood earlier
-  pub insert-taken : (at : ℕ) {r : Standing} → i < length ns → not (eqb (getD t at 0) 0) ≡ true
-      → r ≡ cond (eqb (getD t at 0) (getD ns i 0)) Twice Open → Says r ns
-  insert-taken at l h e = rw e (by (eqb (getD t at 0) (getD ns i 0)) refl)
+  -- a number that is met stood earlier
+  pub insert-met : {x : ℕ} → i < length ns → x ≡ getD ns i 0 → Met t x → Repeating ns
+  insert-met l e m =
+      let s = k .only (m .slot) (m .taken) in
+      record { early = s .0; late = i; before = s .1; within = l; same = s .2 ∙ m .is ∙ e }
+
+-- the slot that a number came to is free, or it is taken
+module _ {t : List ℕ} {x at : ℕ} (p : Probed t x at) where
+  pub inserted-free : not (eqb (getD t at 0) 0) ≡ false → Taken t x (set t at x)
+  inserted-free e = record { slot = at; probed = p; free = eqb-true (getD t at 0) 0 (not-false (eqb (getD t at 0) 0) e); is = refl }
+
+  pub inserted-taken : (u : List ℕ) {r : Standing} → not (eqb (getD t at 0) 0) ≡ true → r ≡ cond (eqb (getD t at 0) x) Twice Open → Inserted t x r u
+  inserted-taken u h e = rw e (by (eqb (getD t at 0) x) refl)
     where
-      by : (c : Bool) → eqb (getD t at 0) (getD ns i 0) ≡ c → Says (cond c Twice Open) ns
-      by true g =
-          let s = k .only at (eqb-false (getD t at 0) 0 (not-true (eqb (getD t at 0) 0) h)) in
-          record { early = s .0; late = i; before = s .1; within = l; same = s .2 ∙ eqb-true (getD t at 0) (getD ns i 0) g }
+      by : (c : Bool) → eqb (getD t at 0) x ≡ c → Inserted t x (cond c Twice Open) u
+      by true g = record { slot = at; taken = eqb-false (getD t at 0) 0 (not-true (eqb (getD t at 0) 0) h); is = eqb-true (getD t at 0) x g }
       by false g = tt
 
 pub all-free : Empty (replicate slotCount 0)
 all-free = record { all = length-replicate {A = ℕ} slotCount 0; free = λ p. ap (λ (l : List ℕ). getD l p 0) (sym (take-length (replicate slotCount 0))) ∙ zeros-front slotCount (length {A = ℕ} (replicate slotCount 0)) p }
 
-pub ruleset inserting = (insert-none, insert-more, insert-all, insert-taken)
+pub ruleset inserting = (inserted-free, inserted-taken)

@@ -1,33 +1,15 @@
--- Numbers that stand once or twice, and the hash table with linear probing in which they take slots. Assumes nothing.
+-- The hash table with linear probing in which numbers take slots, and what inserting one tells. Assumes nothing.
 use mathlib.Core.List.{List}
 use mathlib.Core.Logic.{_≢_}
 use mathlib.Core.Path.{_≡_}
 use Prim.Native.Nat.{ℕ, _+_, _*_, _/_, _%_, _≤_, _<_}
-use lib.ListN.{length, getD}
+use lib.ListN.{length, getD, set}
 use Rattle.hash_repeats.specs.declared.Standing.{Standing}
 use Rattle.hash_repeats.specs.declared.Standing.the-variants.{Once, Twice, Open}
 
--- no number stands at two indices
-pub record Differing (ns : List ℕ) : Type 0 where
-  pub differ : (j k : ℕ) → j < k → k < length ns → getD ns j 0 ≢ getD ns k 0
-
--- the number at an index stands at an earlier one too
-pub record Repeating (ns : List ℕ) : Type 0 where
-  pub early : ℕ
-  pub late : ℕ
-  pub before : early < late
-  pub within : late < length ns
-  pub same : getD ns early 0 ≡ getD ns late 0
-
--- 0 is none of them
+-- 0 is none of the numbers
 pub record Nonzero (ns : List ℕ) : Type 0 where
   pub some : (i : ℕ) → i < length ns → getD ns i 0 ≢ 0
-
--- what each answer says of numbers; where it is open, nothing
-abbrev pub Says : Standing → List ℕ → Type 0
-Says Once ns = Differing ns
-Says Twice ns = Repeating ns
-Says Open ns = Unit {0}
 
 -- a number's home slot is one of so many, and it takes that or one of the next few
 abbrev pub homes : ℕ
@@ -41,7 +23,7 @@ slotCount = homes + probes
 
 -- numbers are spread by a product, of whose lower 32 bits the upper ten count
 unfoldable pub homeOf : ℕ → ℕ
-homeOf x = x % 4294967296 * 2654435769 % 4294967296 / 4194304
+homeOf x = x * 2654435769 % 4294967296 / 4194304
 
 -- r is the home slot of x
 pub record Home (x r : ℕ) : Type 0 where
@@ -59,3 +41,22 @@ pub record Probed (slots : List ℕ) (x at : ℕ) : Type 0 where
   pub room : at < length slots
   pub taken : (q : ℕ) → homeOf x ≤ q → q < at → getD slots q 0 ≢ 0
   pub other : (q : ℕ) → homeOf x ≤ q → q < at → getD slots q 0 ≢ x
+
+-- x has taken the free slot that it came to, and all else is as it was
+pub record Taken (slots : List ℕ) (x : ℕ) (left : List ℕ) : Type 0 where
+  pub slot : ℕ
+  pub probed : Probed slots x slot
+  pub free : getD slots slot 0 ≡ 0
+  pub is : left ≡ set slots slot x
+
+-- x stands in a slot that is taken
+pub record Met (slots : List ℕ) (x : ℕ) : Type 0 where
+  pub slot : ℕ
+  pub taken : getD slots slot 0 ≢ 0
+  pub is : getD slots slot 0 ≡ x
+
+-- what each answer says of x, inserted into slots and with these left; where it is open, nothing
+abbrev pub Inserted : List ℕ → ℕ → Standing → List ℕ → Type 0
+Inserted slots x Once left = Taken slots x left
+Inserted slots x Twice left = Met slots x
+Inserted slots x Open left = Unit {0}

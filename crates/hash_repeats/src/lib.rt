@@ -1,13 +1,13 @@
 // Hash table with linear probing: each number takes the first free slot from its home slot on, and one that meets itself there stands twice.
-// For speed alone: the promise is that it tells whether a number stands twice, or leaves it open, so skip it on a first reading.
+// For speed alone: the promise is that it tells whether a number stood in the table before, or leaves it open, so skip it on a first reading.
 ghost use mathlib.Core.Bool.{cond};
 ghost use mathlib.Core.Path.{_≡_};
 ghost use lib.ListN.{length};
 ghost use lib.Dec.{eqb};
 ghost use Rattle.hash_repeats.specs.declared.Standing.the-variants.{Twice, Open};
-ghost use Rattle.hash_repeats.specs.Repeats.{Nonzero, Says, slotCount, Home, Empty, Probed};
+ghost use Rattle.hash_repeats.specs.Repeats.{slotCount, Home, Probed, Inserted};
 
-// Whether each number stands once, or one stands twice. It is left open where too many numbers want the same slots.
+// Whether a number stands once so far, or twice. It is left open where too many numbers want the same slots.
 pub enum Standing {
     Once,
     Twice,
@@ -18,20 +18,20 @@ pub enum Standing {
 const PROBES: usize = 64;
 
 // 1,024 home slots, and PROBES more behind the last of them.
-const SLOTS: usize = 1088;
+pub const SLOTS: usize = 1088;
 
 // Two to the power of 32.
 const WORD: u64 = 4294967296;
 
 // The home slot of a number, by multiplicative hashing. The factor is WORD divided by the golden ratio, which spreads numbers that follow one another.
-fn home_of(number: u64) -> usize
+fn home_of(number: u32) -> usize
     ensures { λ r. ⌜ Home number r ⌝ }
 {
-    (number % WORD * 2654435769 % WORD / 4194304) as usize
+    (number as u64 * 2654435769 % WORD / 4194304) as usize
 }
 
 // Of the slots that a number may take, the first that is free or holds that number, or else the last.
-fn probe(slots: &[u64], number: u64) -> usize
+fn probe(slots: &[u32], number: u32) -> usize
     requires { ⌜ length (now slots) ≡ slotCount ⌝ }
     ensures { λ r. ⌜ Probed (now (slots .entry)) number r ⌝ }
 {
@@ -49,7 +49,7 @@ fn probe(slots: &[u64], number: u64) -> usize
 }
 
 // What a number that ends at a taken slot tells: it stands there already, or every slot that it may take is taken by others.
-fn repeat_or_full(found: u64, number: u64) -> Standing
+fn repeat_or_full(found: u32, number: u32) -> Standing
     ensures { λ r. ⌜ r ≡ cond (eqb found number) Twice Open ⌝ }
 {
     let repeated = found == number;
@@ -59,32 +59,17 @@ fn repeat_or_full(found: u64, number: u64) -> Standing
     Standing::Open
 }
 
-// Inserts each number in turn. A free slot holds 0, so 0 may not be one of the numbers.
-fn insert_all(numbers: &[u64], slots: &mut [u64]) -> Standing
-    requires { ⌜ Nonzero (now numbers) ⌝ }
-    requires { ⌜ Empty (now slots) ⌝ }
-    ensures { λ r. ⌜ Says r (now (numbers .entry)) ⌝ }
+// Inserts a number. A free slot holds 0, so 0 itself would be new each time.
+pub fn insert(slots: &mut [u32], number: u32) -> Standing
+    requires { ⌜ length (now slots) ≡ slotCount ⌝ }
+    ensures { λ r. ⌜ Inserted (now (slots .entry)) number r (now (slots .exit)) ⌝ }
 {
-    let mut i: usize = 0;
-    while i < numbers.len() {
-        let number = numbers[i];
-        let at = probe(slots, number);
-        let found = slots[at];
-        let taken = found != 0;
-        if taken {
-            return repeat_or_full(found, number);
-        }
-        slots[at] = number;
-        i += 1;
+    let at = probe(slots, number);
+    let found = slots[at];
+    let taken = found != 0;
+    if taken {
+        return repeat_or_full(found, number);
     }
+    slots[at] = number;
     Standing::Once
-}
-
-// Whether a number stands at two indices, by a table that begins empty.
-pub fn standing_of(numbers: &[u64]) -> Standing
-    requires { ⌜ Nonzero (now numbers) ⌝ }
-    ensures { λ r. ⌜ Says r (now (numbers .entry)) ⌝ }
-{
-    let mut slots = [0u64; SLOTS];
-    insert_all(numbers, &mut slots)
 }

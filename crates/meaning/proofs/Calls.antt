@@ -1,7 +1,7 @@
 -- A call that writes what it makes: what it answers and leaves where a test refuses, where there is no room, and where it accepts. Assumes nothing.
 use mathlib.Core.List.{List, [], _∷_, _++_}
-use mathlib.Core.Path.{_≡_, _∙_}
-use Prim.Native.Nat.{ℕ}
+use mathlib.Core.Path.{_≡_, refl, _∙_}
+use Prim.Native.Nat.{ℕ, _≤_}
 use native.Mathlib.Omega.{arith}
 use borrow.Author.Tests.{le-ltb}
 use lib.Dec.{ltb}
@@ -11,7 +11,7 @@ use Rattle.basis.specs.declared.Verdict.{Verdict}
 use Rattle.basis.specs.declared.Verdict.the-variants.{Passes, Refuses}
 use Rattle.basis.specs.Answers.{refuseIf, firstRefusal, answer, settled, Gives}
 use Rattle.basis.specs.Bytes.{Written}
-use Rattle.basis.proofs.Answers.{passed-then, refused-then}
+use Rattle.basis.proofs.Answers.{passed-then, refused-then, each-passes, passed-append, room-there}
 use Rattle.meaning.specs.Calls.{roomTest, written}
 
 module _ (tests : List Verdict) (made buffer : List ℕ) where
@@ -21,6 +21,10 @@ module _ (tests : List Verdict) (made buffer : List ℕ) where
   refused-gives e t h =
       let f = refused-then tests (roomTest made buffer ∷ []) (e ∙ t) in
       record { answers = h ∙ rw (f, t); leaves = rw f }
+
+  -- where all tests pass, there is room for what is made
+  pub room-passed : firstRefusal (tests ++ (roomTest made buffer ∷ [])) ≡ Passes → length made ≤ length buffer
+  room-passed e = room-there (length buffer) (length made) refl (each-passes (roomTest made buffer ∷ []) (passed-append tests (roomTest made buffer ∷ []) e .1) .0)
 
   -- the other tests have passed, and the room is asked
   module _ (e : firstRefusal tests ≡ Passes) {needed : ℕ} (g : length made ≡ needed) where

@@ -1,12 +1,12 @@
 // Whether the numbers of a register differ, found without order as a rule.
 ghost use mathlib.Core.Path.{_≡_};
-ghost use lib.ListN.{length};
 ghost use Rattle.basis.specs.Answers.{passes};
-ghost use Rattle.meaning.specs.Register.{sourceCount, sourcesOf, repeatTest};
-ghost use Rattle.hash_repeats.specs.Repeats.{Nonzero};
+ghost use Rattle.meaning.specs.Register.{sourcesOf, repeatTest};
+ghost use Rattle.hash_repeats.specs.Repeats.{Nonzero, Empty};
 ghost use Rattle.register_header.specs.Header.{Headed};
 ghost use Rattle.register_accept.specs.Numbers.{numbersOf, Tells};
 use basis::Verdict;
+use hash_repeats::SLOTS;
 use hash_repeats::Standing;
 use register_header::MOST_SOURCES;
 use register_header::source_count;
@@ -25,35 +25,31 @@ pub fn is_passed(verdict: Verdict) -> bool
     }
 }
 
-fn fill_numbers(register: &[u8], numbers: &mut [u64])
-    requires { ⌜ Headed (now register) × (length (now numbers) ≡ sourceCount (now register)) ⌝ }
-    ensures { λ _. ⌜ now (numbers .exit) ≡ numbersOf (now (register .entry)) ⌝ }
-{
-    let mut i: usize = 0;
-    while i < numbers.len() {
-        numbers[i] = source_number(register, i);
-        i += 1;
-    }
-}
-
-fn standing_in(register: &[u8], numbers: &mut [u64]) -> Standing
-    requires { ⌜ Headed (now register) × (length (now numbers) ≡ sourceCount (now register)) ⌝ }
-    requires { ⌜ Nonzero (numbersOf (now register)) ⌝ }
+// Each number in turn is inserted into slots that are free, up to the first that tells.
+fn standing_in(register: &[u8], slots: &mut [u32]) -> Standing
+    requires { ⌜ Headed (now register) × Nonzero (numbersOf (now register)) × Empty (now slots) ⌝ }
     ensures { λ r. ⌜ Tells r (passes (repeatTest (sourcesOf (now (register .entry))))) ⌝ }
 {
-    fill_numbers(register, numbers);
-    hash_repeats::standing_of(numbers)
+    let n = source_count(register);
+    let mut i: usize = 0;
+    while i < n {
+        let number = source_number(register, i) as u32;
+        match hash_repeats::insert(slots, number) {
+            Standing::Once => i += 1,
+            Standing::Twice => return Standing::Twice,
+            Standing::Open => return Standing::Open,
+        }
+    }
+    Standing::Once
 }
 
 // Whether a number stands twice, as far as it is found without order.
 fn standing(register: &[u8]) -> Standing
-    requires { ⌜ Headed (now register) ⌝ }
-    requires { ⌜ Nonzero (numbersOf (now register)) ⌝ }
+    requires { ⌜ Headed (now register) × Nonzero (numbersOf (now register)) ⌝ }
     ensures { λ r. ⌜ Tells r (passes (repeatTest (sourcesOf (now (register .entry))))) ⌝ }
 {
-    let n = source_count(register);
-    let mut numbers = [0u64; MOST_SOURCES];
-    standing_in(register, &mut numbers[..n])
+    let mut slots = [0u32; SLOTS];
+    standing_in(register, &mut slots)
 }
 
 // The same by the keys in order, which always tell.
@@ -68,8 +64,7 @@ fn differ_sorted(register: &[u8]) -> bool
 
 // Whether test 4 passes, for whoever has no use for the order of the sources: keys are sorted only where it is open without them.
 pub fn numbers_differ(register: &[u8]) -> bool
-    requires { ⌜ Headed (now register) ⌝ }
-    requires { ⌜ Nonzero (numbersOf (now register)) ⌝ }
+    requires { ⌜ Headed (now register) × Nonzero (numbersOf (now register)) ⌝ }
     ensures { λ r. ⌜ r ≡ passes (repeatTest (sourcesOf (now (register .entry)))) ⌝ }
 {
     match standing(register) {

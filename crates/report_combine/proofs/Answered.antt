@@ -15,14 +15,13 @@ use Rattle.basis.specs.Answers.{refuseIf, firstRefusal, answer, Gives}
 use Rattle.basis.specs.Bytes.{Written}
 use Rattle.basis.specs.First.{first}
 use Rattle.basis.specs.Lists.{Each}
-use Rattle.basis.proofs.Answers.{single-test, passed-then, refused-then, each-passes, passed-append, passed-if}
+use Rattle.basis.proofs.Answers.{single-test, passed-then, refused-then, each-passes, passed-append, passed-if, room-there}
 use Rattle.basis.proofs.Lists.{each-at}
 use Rattle.meaning.specs.Register.{mostSources}
 use Rattle.meaning.specs.Report.{reportLength, reportYear, entryCount, entriesOf}
 use Rattle.meaning.specs.Calls.{formTest, sharedAt, sharedTest, combinationTests, bothEntries, combinedReport, combined}
 use Rattle.meaning.proofs.Calls.{refused-gives, short-gives, made-gives}
 use Rattle.meaning.proofs.Lengths.{length-report}
-use Rattle.answer.proofs.Laws.{room-there}
 use Rattle.report_read.specs.Readable.{Readable}
 use Rattle.report_check.proofs.Form.{readable}
 use Rattle.report_merge.specs.Merge.{sharedNumber, Combinable}

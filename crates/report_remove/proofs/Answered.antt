@@ -15,7 +15,7 @@ use Rattle.meaning.specs.Report.{reportLength, reportBytes, reportYear, entryCo
 use Rattle.meaning.specs.Calls.{formTest, removalTests, removedReport, removed}
 use Rattle.meaning.proofs.Calls.{refused-gives, short-gives, made-gives}
 use Rattle.meaning.proofs.Lengths.{length-report}
-use Rattle.answer.proofs.Laws.{room-there}
+use Rattle.basis.proofs.Answers.{room-there}
 use Rattle.report_read.specs.Readable.{Readable}
 use Rattle.report_read.specs.Entries.{numberedAt}
 use Rattle.report_remove.specs.Others.{otherEntries}

@@ -24,7 +24,7 @@ use Rattle.meaning.proofs.Calls.{refused-gives, short-gives, made-gives}
 use Rattle.meaning.proofs.Reports.{formed, count-is, length-masses, length-figures, length-totals}
 use Rattle.fields.specs.Fields.{Field}
 use Rattle.report_read.specs.Figures.{figuresAt}
-use Rattle.answer.proofs.Laws.{room-there}
+use Rattle.basis.proofs.Answers.{room-there}
 use Rattle.report_read.specs.Readable.{Readable}
 use Rattle.report_read.specs.Entries.{entryNumber}
 use Rattle.decimal_write.specs.Digits.{field, pair, Ends, Put, Placed}

@@ -1,5 +1,7 @@
 //! Combination: one pass over both reports finds a shared number, one writes.
 
+use std::hint::select_unpredictable;
+
 use crate::layout::{report_length, ENTRIES_AT, ENTRY_LENGTH, MOST_SOURCES};
 use crate::report::{number_of, put_header, well_formed, Entry, Report};
 use crate::{room, Refusal};
@@ -29,8 +31,9 @@ fn shared_number(first: &[Entry], second: &[Entry]) -> Option<u32> {
         if one == other {
             return Some(one);
         }
-        i += usize::from(one < other);
-        j += usize::from(other < one);
+        let step = select_unpredictable(one < other, 1, 0);
+        i += step;
+        j += 1 - step;
     }
     None
 }

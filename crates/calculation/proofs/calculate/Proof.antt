@@ -1,5 +1,5 @@
 use borrow.Author.Needs.{needs}
-use Rattle.answer.proofs.Laws.{handed-on}
+use Rattle.basis.proofs.Answers.{handed-on}
 use Rattle.calculation.proofs.calculate.Statement.{statement}
 use Rattle.calculation.proofs.calculate.Tie as tie
 

@@ -1,5 +1,5 @@
 use native.Mathlib.Omega.{arith}
-use lib.ListN.{length-take}
+use Rattle.hash_repeats.proofs.Slots.{all-free}
 use Rattle.register_accept.proofs.numbers.standing.Statement.{statement}
 use Rattle.register_accept.proofs.numbers.standing.Tie as tie
 
@@ -7,8 +7,6 @@ pub standing-spec : {M : Type 1} → statement M
 standing-spec =
     tie.close
     (tie.spec
-    (λ c κs. omega arith)
     (λ c. omega arith)
-    (λ c. simp length-take (omega arith))
-    (λ c κs. ((search, simp length-take (omega arith)), search))
+    (λ c κs. (search, search, all-free))
     (λ c. search))
