@@ -6,15 +6,15 @@ use mathlib.Core.Path.{_≡_, refl, sym, ap, _∙_}
 use Prim.Native.Nat.{ℕ, _+_, _*_, _/_, _%_, _≤_, _<_}
 use native.Mathlib.Decide.{decLt}
 use native.Mathlib.Omega.{arith}
-use borrow.Author.Tests.{eqb-true, eqb-false, not-true, not-false}
+use borrow.Author.Tests.{eqb-true, eqb-false, ne-eqb, not-true, not-false}
 use lib.Dec.{eqb}
 use lib.ListN.{length, getD, set, length-set, replicate, length-replicate}
 use lib.Seq.{take-length, getD-set-same, getD-set-other}
-use Rattle.basis.proofs.Bools.{or-false}
+use Rattle.basis.proofs.Bools.{clash, or-false}
 use Rattle.basis.proofs.Counting.{zeros-front}
 use Rattle.hash_repeats.specs.declared.Standing.{Standing}
 use Rattle.hash_repeats.specs.declared.Standing.the-variants.{Twice, Open}
-use Rattle.hash_repeats.specs.Repeats.{Nonzero, probes, slotCount, homeOf, Home, Empty, Probed, Taken, Met, Inserted}
+use Rattle.hash_repeats.specs.Repeats.{Nonzero, probes, slotCount, homeOf, Home, Empty, Probed, Ended, Taken, Met, Inserted}
 
 -- x stands in its home slot or behind it, with no free slot between
 pub record Stands (slots : List ℕ) (x : ℕ) : Type 0 where
@@ -113,7 +113,14 @@ probe-more {t} {x} {home} {at} p l e =
           };
     }
 
-pub ruleset probing = (home-is, probe-none, probe-more)
+-- where the probes end: at a slot that is free or the number's own, or behind all the others
+pub probe-ends : {t : List ℕ} {x home at : ℕ} → Probing t x home at → eqb (getD t at 0) 0 || eqb (getD t at 0) x ≡ true → Ended t x at
+probe-ends {t} {x} {at = at} p e = record { probed = p .probed; last = λ f g. absurd (clash e (rw (ne-eqb (getD t at 0) 0 f, ne-eqb (getD t at 0) x g))) }
+
+pub probe-last : {t : List ℕ} {x home at : ℕ} → Probing t x home at → home + probes ≤ at → Ended t x at
+probe-last p l = record { probed = p .probed; last = λ f g. omega (arith, p .high, p .first .is) }
+
+pub ruleset probing = (home-is, probe-none, probe-more, probe-ends, probe-last)
 
 -- no number stands at two indices
 pub record Differing (ns : List ℕ) : Type 0 where
@@ -187,16 +194,22 @@ module _ {ns t : List ℕ} {i : ℕ} (k : InTable ns t i) where
       record { early = s .0; late = i; before = s .1; within = l; same = s .2 ∙ m .is ∙ e }
 
 -- the slot that a number came to is free, or it is taken
-module _ {t : List ℕ} {x at : ℕ} (p : Probed t x at) where
+module _ {t : List ℕ} {x at : ℕ} (p : Ended t x at) where
   pub inserted-free : not (eqb (getD t at 0) 0) ≡ false → Taken t x (set t at x)
-  inserted-free e = record { slot = at; probed = p; free = eqb-true (getD t at 0) 0 (not-false (eqb (getD t at 0) 0) e); is = refl }
+  inserted-free e = record { slot = at; probed = p .probed; free = eqb-true (getD t at 0) 0 (not-false (eqb (getD t at 0) 0) e); is = refl }
 
-  pub inserted-taken : (u : List ℕ) {r : Standing} → not (eqb (getD t at 0) 0) ≡ true → r ≡ cond (eqb (getD t at 0) x) Twice Open → Inserted t x r u
-  inserted-taken u h e = rw e (by (eqb (getD t at 0) x) refl)
+  pub inserted-taken : {r : Standing} → not (eqb (getD t at 0) 0) ≡ true → r ≡ cond (eqb (getD t at 0) x) Twice Open → Inserted t x r t
+  inserted-taken h e = rw e (by (eqb (getD t at 0) x) refl)
     where
-      by : (c : Bool) → eqb (getD t at 0) x ≡ c → Inserted t x (cond c Twice Open) u
-      by true g = record { slot = at; taken = eqb-false (getD t at 0) 0 (not-true (eqb (getD t at 0) 0) h); is = eqb-true (getD t at 0) x g }
-      by false g = tt
+      taken : getD t at 0 ≢ 0
+      taken = eqb-false (getD t at 0) 0 (not-true (eqb (getD t at 0) 0) h)
+
+      by : (c : Bool) → eqb (getD t at 0) x ≡ c → Inserted t x (cond c Twice Open) t
+      by true g = (record { slot = at; taken = taken; is = eqb-true (getD t at 0) x g }, refl)
+      by false g =
+          let other = eqb-false (getD t at 0) x g in
+          let last = p .last taken other in
+          (record { probed = rw last at (p .probed); taken = rw last at taken; other = rw last at other }, refl)
 
 pub all-free : Empty (replicate slotCount 0)
 all-free = record { all = length-replicate {A = ℕ} slotCount 0; free = λ p. ap (λ (l : List ℕ). getD l p 0) (sym (take-length (replicate slotCount 0))) ∙ zeros-front slotCount (length {A = ℕ} (replicate slotCount 0)) p }

@@ -42,6 +42,11 @@ pub record Probed (slots : List ℕ) (x at : ℕ) : Type 0 where
   pub taken : (q : ℕ) → homeOf x ≤ q → q < at → getD slots q 0 ≢ 0
   pub other : (q : ℕ) → homeOf x ≤ q → q < at → getD slots q 0 ≢ x
 
+-- the probes of x end at a slot that is free or its own, or else at the last that it may take
+pub record Ended (slots : List ℕ) (x at : ℕ) : Type 0 where
+  pub probed : Probed slots x at
+  pub last : getD slots at 0 ≢ 0 → getD slots at 0 ≢ x → at ≡ homeOf x + probes
+
 -- x has taken the free slot that it came to, and all else is as it was
 pub record Taken (slots : List ℕ) (x : ℕ) (left : List ℕ) : Type 0 where
   pub slot : ℕ
@@ -55,8 +60,14 @@ pub record Met (slots : List ℕ) (x : ℕ) : Type 0 where
   pub taken : getD slots slot 0 ≢ 0
   pub is : getD slots slot 0 ≡ x
 
--- what each answer says of x, inserted into slots and with these left; where it is open, nothing
+-- every slot that x may take is taken by another number
+pub record Crowded (slots : List ℕ) (x : ℕ) : Type 0 where
+  pub probed : Probed slots x (homeOf x + probes)
+  pub taken : getD slots (homeOf x + probes) 0 ≢ 0
+  pub other : getD slots (homeOf x + probes) 0 ≢ x
+
+-- what each answer says of x, inserted into slots, and which slots are left
 abbrev pub Inserted : List ℕ → ℕ → Standing → List ℕ → Type 0
 Inserted slots x Once left = Taken slots x left
-Inserted slots x Twice left = Met slots x
-Inserted slots x Open left = Unit {0}
+Inserted slots x Twice left = Met slots x × (left ≡ slots)
+Inserted slots x Open left = Crowded slots x × (left ≡ slots)

@@ -5,7 +5,7 @@ ghost use mathlib.Core.Path.{_≡_};
 ghost use lib.ListN.{length};
 ghost use lib.Dec.{eqb};
 ghost use Rattle.hash_repeats.specs.declared.Standing.the-variants.{Twice, Open};
-ghost use Rattle.hash_repeats.specs.Repeats.{slotCount, Home, Probed, Inserted};
+ghost use Rattle.hash_repeats.specs.Repeats.{slotCount, Home, Ended, Inserted};
 
 // Whether a number stands once so far, or twice. It is left open where too many numbers want the same slots.
 pub enum Standing {
@@ -33,7 +33,7 @@ fn home_of(number: u32) -> usize
 // Of the slots that a number may take, the first that is free or holds that number, or else the last.
 fn probe(slots: &[u32], number: u32) -> usize
     requires { ⌜ length (now slots) ≡ slotCount ⌝ }
-    ensures { λ r. ⌜ Probed (now (slots .entry)) number r ⌝ }
+    ensures { λ r. ⌜ Ended (now (slots .entry)) number r ⌝ }
 {
     let home = home_of(number);
     let mut at = home;

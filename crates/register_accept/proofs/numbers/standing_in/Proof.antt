@@ -30,7 +30,7 @@ standing-in-spec =
     (λ c. omega arith)
     (λ c. search needs)
     (λ c. let call = c .before .before .before .before in
-    number-met (call .before .before .before .before .loop .inv) (omega arith) (call .before .before .source-number .ensures) (rw (c .enum-told2 .given .1) at (call .insert .ensures)))
+    number-met (call .before .before .before .before .loop .inv) (omega arith) (call .before .before .source-number .ensures) ((rw (c .enum-told2 .given .1) at (call .insert .ensures)) .0))
     (λ c. omega arith)
     (λ c. search needs)
     (λ c. tt)
