@@ -1,7 +1,8 @@
-/* Kopristen for C: libkopristen.a, which `rt staticlib kopristen` makes for x86-64 Linux.
+/* Kopristen for C: libkopristen.a, which `host/library` makes for the machine at hand, printing the folder that has it.
  *
- * Each function takes any bytes, returns, and is proved to answer and to leave what document 01 says of them. None allocates,
- * keeps anything between calls or calls the system; one takes at most 24 KiB of stack and may be called from any thread.
+ * Each function takes any bytes, returns, and is proved to answer and to leave what crates/meaning defines; docs/FORMATS.md says it in
+ * words. None allocates, keeps anything between calls or calls the system; one takes at most 24 KiB of stack and may be called from any
+ * thread.
  *
  * The caller sees to this, since nothing tests it:
  * - a pointer and its length name bytes that may be read, and of a buffer written, until the call returns;
@@ -18,12 +19,22 @@
 extern "C" {
 #endif
 
-/* Lengths in bytes: of the longest register, of a report of so many sources, and of the longest report. */
+/* Limits of a register: its sources, which are also the most of a report, its lines, the bytes of all its names together, and
+ * those of one name. */
+#define KOPRISTEN_MOST_SOURCES 512
+#define KOPRISTEN_MOST_LINES 1024
+#define KOPRISTEN_MOST_NAME_BYTES 16384
+#define KOPRISTEN_LONGEST_NAME 64
+
+/* Lengths in bytes: of the longest register, of a report of so many sources, and of the longest report; and one that
+ * no report's text exceeds. */
 #define KOPRISTEN_MOST_REGISTER_BYTES 45088
 #define KOPRISTEN_REPORT_BYTES(sources) (56 + 40 * (size_t)(sources))
-#define KOPRISTEN_MOST_REPORT_BYTES KOPRISTEN_REPORT_BYTES(512)
+#define KOPRISTEN_MOST_REPORT_BYTES KOPRISTEN_REPORT_BYTES(KOPRISTEN_MOST_SOURCES)
+#define KOPRISTEN_MOST_TEXT_BYTES 38994
 
-/* Acceptance is number 0, place 0 and a length. A refusal has its number of document 01's table, its place and length 0. */
+/* Acceptance is number 0, place 0 and a length. A refusal has its number and place of the table in docs/FORMATS.md, where sources and
+ * lines are counted from 0, and length 0. */
 struct kopristen_answer {
     uint32_t number;
     uint64_t place;
@@ -59,7 +70,7 @@ struct kopristen_answer kopristen_remove(const uint8_t *report, size_t report_le
 struct kopristen_answer kopristen_check(const uint8_t *report, size_t report_length);
 
 /* Writes a report as text, a line for its totals and one for each entry, without a 0 behind it. Refuses with 9 and 8;
- * place is then the length needed, so a call with length 0 asks for it. */
+ * place is then the length needed, so a call with length 0 asks for it. KOPRISTEN_MOST_TEXT_BYTES are always room enough. */
 struct kopristen_answer kopristen_text(const uint8_t *report, size_t report_length, uint8_t *text, size_t room);
 
 /* Where the name of a number's source stands in a register. There is none where calculation would refuse the register with 1 to 4,

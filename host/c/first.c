@@ -5,7 +5,8 @@
 
 int main(void) {
     /* One byte more than the longest register, so that a longer input is refused. */
-    static uint8_t input[KOPRISTEN_MOST_REGISTER_BYTES + 1], report[KOPRISTEN_MOST_REPORT_BYTES], text[65536];
+    static uint8_t input[KOPRISTEN_MOST_REGISTER_BYTES + 1];
+    static uint8_t report[KOPRISTEN_MOST_REPORT_BYTES], text[KOPRISTEN_MOST_TEXT_BYTES];
     size_t length = fread(input, 1, sizeof input, stdin);
     struct kopristen_answer made = kopristen_calculate(input, length, report, sizeof report);
     if (made.number != 0) {

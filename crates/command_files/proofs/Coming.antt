@@ -13,7 +13,7 @@ pub fronting : (n : ℕ) (room : List ℕ) → n ≤ length room → Front n roo
 fronting n room l = record { within = l; part = counted n room l }
 
 module _ {input : Input} {room : List ℕ} {n : ℕ} (w : Within input room) (e : input ≡ Came n) where
-  came-front : Front n room
+  pub came-front : Front n room
   came-front = rw e at w
 
   pub came-within : n ≤ length room

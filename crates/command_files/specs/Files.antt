@@ -7,8 +7,8 @@ use Rattle.basis.specs.Bytes.{ascii}
 use Rattle.decimal_write.specs.Digits.{field}
 use Rattle.command_files.specs.declared.Input.{Input}
 use Rattle.command_files.specs.declared.Input.the-variants.{Failed, Came}
-use Rattle.command_files.specs.declared.Made.{Made}
-use Rattle.command_files.specs.declared.Made.the-variants.{Nothing, Open}
+use Rattle.command_files.specs.declared.result.Made.{Made}
+use Rattle.command_files.specs.declared.result.Made.the-variants.{Nothing, Open}
 
 -- n bytes at the front of a room. The second part says so of the part that is lent on.
 pub record Front (n : ℕ) (room : List ℕ) : Type 0 where

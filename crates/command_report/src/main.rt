@@ -35,7 +35,7 @@ fn main() {
     let mut register = [0u8; REGISTER_ROOM];
     let input = command_files::read_all(STDIN_FILENO, &mut register);
     let Input::Came(n) = input else {
-        os::fail(b"standard input");
+        command_files::fail(b"standard input");
         return;
     };
     say_output(&register[..n]);

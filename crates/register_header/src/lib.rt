@@ -4,7 +4,8 @@ ghost use Prim.Native.Nat.{_≤_};
 ghost use lib.ListN.{length, drop};
 ghost use Rattle.basis.specs.declared.Verdict.the-variants.{Refuses};
 ghost use Rattle.basis.specs.Answers.{firstRefusal};
-ghost use Rattle.meaning.specs.Register.{sourcesAt, yearOf, sourceCount, lineCount, nameBytes, linesAt, namesAt, headerTests};
+ghost use Rattle.basis.specs.Bytes.{startsWith};
+ghost use Rattle.meaning.specs.Register.{registerTag, sourcesAt, yearOf, sourceCount, lineCount, nameBytes, linesAt, namesAt, headerTests};
 ghost use Rattle.register_header.specs.Header.{CountsRead, Headed};
 use answer::refuse_if;
 use basis::Verdict;
@@ -96,6 +97,14 @@ pub fn names_at(register: &[u8]) -> usize
     lines_at(register) + LINE_LENGTH * line_count(register)
 }
 
+// "0-3 | tag | "GREG""
+pub fn is_tagged(bytes: &[u8]) -> bool
+    requires { ⌜ 4 ≤ length (now bytes) ⌝ }
+    ensures { λ r. ⌜ r ≡ startsWith registerTag (now (bytes .entry)) ⌝ }
+{
+    fields::starts_with(bytes, b"GREG")
+}
+
 // "2 | a header field is wrong | its first byte"
 fn wrong_at(place: usize) -> Verdict
     ensures { λ r. ⌜ r ≡ Refuses 2 place ⌝ }
@@ -158,7 +167,7 @@ pub fn test_header(register: &[u8]) -> Verdict
     requires { ⌜ sourcesAt ≤ length (now register) ⌝ }
     ensures { λ r. ⌜ r ≡ firstRefusal (headerTests (now (register .entry))) ⌝ }
 {
-    let untagged = !fields::starts_with(register, b"GREG");
+    let untagged = !is_tagged(register);
     if untagged {
         return wrong_at(TAG_AT);
     }

@@ -8,8 +8,26 @@ mod refusal;
 pub mod raw;
 pub use refusal::Refusal;
 
-/// The length of the longest report: a header and 512 entries.
-pub const MOST_REPORT_BYTES: usize = 56 + 512 * 40;
+/// The most sources of a register and of a report.
+pub const MOST_SOURCES: usize = 512;
+
+/// The most lines of a register.
+pub const MOST_LINES: usize = 1_024;
+
+/// The most bytes of all names of a register together.
+pub const MOST_NAME_BYTES: usize = 16_384;
+
+/// The length of the longest name, in bytes.
+pub const LONGEST_NAME: usize = 64;
+
+/// The length of the longest register: a header, the most sources and lines, and the most bytes of names.
+pub const MOST_REGISTER_BYTES: usize = 32 + 16 * MOST_SOURCES + 20 * MOST_LINES + MOST_NAME_BYTES;
+
+/// The length of the longest report: a header and the most entries.
+pub const MOST_REPORT_BYTES: usize = 56 + 40 * MOST_SOURCES;
+
+/// A bound that no report's text exceeds: 82 bytes for the line of the totals and 76 for each entry's.
+pub const MOST_TEXT_BYTES: usize = 82 + 76 * MOST_SOURCES;
 
 /// Calculates a register's report, and answers its length.
 pub fn calculate(register: &[u8], report: &mut [u8]) -> Result<usize, Refusal> {

@@ -1,4 +1,4 @@
-//! "Refusal numbers": a refusal as an error, with a sentence for each number of document 01's table.
+//! "Refusal numbers": a refusal as an error, with a sentence for each number of the table.
 
 use std::fmt;
 
@@ -27,11 +27,14 @@ impl fmt::Display for Refusal {
         match self.number {
             1 => write!(f, "the register is shorter than its 32 bytes of header"),
             2 => write!(f, "the header field at byte {place} is wrong"),
-            3 => write!(f, "source {place} or its name is wrong, or lines or name bytes are left over behind the last"),
-            4 => write!(f, "the number of source {place} stood earlier in the table"),
-            5 => write!(f, "line {place} breaks its ranges or is wrong for its method"),
-            6 => write!(f, "the CO2 sum of source {place} is below zero"),
-            7 => write!(f, "the CO2-equivalent of source {place} is above 10^15 g"),
+            3 => write!(
+                f,
+                "source {place}, counted from 0, or its name is wrong; past the last, lines or name bytes are left over"
+            ),
+            4 => write!(f, "source {place}, counted from 0, has a number that an earlier source has"),
+            5 => write!(f, "line {place}, counted from 0, breaks its ranges or is wrong for its method"),
+            6 => write!(f, "source {place}, counted from 0, has a CO2 sum below zero"),
+            7 => write!(f, "source {place}, counted from 0, has a CO2-equivalent above 10^15 g"),
             8 => write!(f, "the buffer is too short: {place} bytes are needed"),
             9 => write!(f, "report {place} is not well-formed"),
             10 => write!(f, "the years of the reports differ"),

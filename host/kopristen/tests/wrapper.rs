@@ -1,9 +1,16 @@
 //! The wrapper: results, refusals with their sentences, and names as parts of what was lent.
 
-use kopristen::{calculate, check, combine, name, name_of_two, remove, text, Refusal, MOST_REPORT_BYTES};
+use kopristen::{
+    calculate, check, combine, name, name_of_two, remove, text, Refusal, MOST_REPORT_BYTES, MOST_TEXT_BYTES,
+};
 use reference::answers::LAST_REFUSAL;
 use reference::draft::{boiler, boilers, register};
-use reference::layout::{ENTRIES_AT, ENTRY_LENGTH, MOST_REGISTER_LENGTH, MOST_REPORT_LENGTH, MOST_SOURCES};
+use reference::layout::{
+    ENTRIES_AT, ENTRY_LENGTH, MOST_LINES, MOST_NAME_BYTES, MOST_REGISTER_LENGTH, MOST_REPORT_LENGTH, MOST_SOURCES,
+    MOST_TEXT_LENGTH, NAME_LENGTHS,
+};
+use reference::masses::Masses;
+use reference::report::{Entry, Report};
 
 fn calculated(numbers: &[u32]) -> Vec<u8> {
     let mut report = vec![0; MOST_REPORT_BYTES];
@@ -27,18 +34,45 @@ fn accepted_calls_answer_the_length() {
     assert!(written[..length].starts_with(b"2023 2 5862400000 0 0 5862400000\n7 1 2931200000 0 0 "));
 }
 
-/// The wrapper and the header for C state lengths of their own, which must be those of the reference.
+/// The wrapper and the header for C state limits and lengths of their own, which must be those of the reference.
 #[test]
 fn lengths_are_those_of_the_reference() {
+    let longest_name = *NAME_LENGTHS.end() as usize;
+    assert_eq!(kopristen::MOST_SOURCES, MOST_SOURCES);
+    assert_eq!(kopristen::MOST_LINES, MOST_LINES);
+    assert_eq!(kopristen::MOST_NAME_BYTES, MOST_NAME_BYTES);
+    assert_eq!(kopristen::LONGEST_NAME, longest_name);
+    assert_eq!(kopristen::MOST_REGISTER_BYTES, MOST_REGISTER_LENGTH);
     assert_eq!(MOST_REPORT_BYTES, MOST_REPORT_LENGTH);
+    assert_eq!(MOST_TEXT_BYTES, MOST_TEXT_LENGTH);
     let header = include_str!("../../../include/kopristen.h");
-    for stated in [
-        format!("KOPRISTEN_MOST_REGISTER_BYTES {MOST_REGISTER_LENGTH}"),
-        format!("KOPRISTEN_REPORT_BYTES(sources) ({ENTRIES_AT} + {ENTRY_LENGTH} * (size_t)(sources))"),
-        format!("KOPRISTEN_MOST_REPORT_BYTES KOPRISTEN_REPORT_BYTES({MOST_SOURCES})"),
-    ] {
-        assert!(header.contains(&format!("#define {stated}\n")), "{stated}");
-    }
+    let defined: Vec<&str> = header.lines().filter_map(|line| line.strip_prefix("#define KOPRISTEN_")).collect();
+    let expected = [
+        "H".to_string(),
+        format!("MOST_SOURCES {MOST_SOURCES}"),
+        format!("MOST_LINES {MOST_LINES}"),
+        format!("MOST_NAME_BYTES {MOST_NAME_BYTES}"),
+        format!("LONGEST_NAME {longest_name}"),
+        format!("MOST_REGISTER_BYTES {MOST_REGISTER_LENGTH}"),
+        format!("REPORT_BYTES(sources) ({ENTRIES_AT} + {ENTRY_LENGTH} * (size_t)(sources))"),
+        "MOST_REPORT_BYTES KOPRISTEN_REPORT_BYTES(KOPRISTEN_MOST_SOURCES)".to_string(),
+        format!("MOST_TEXT_BYTES {MOST_TEXT_LENGTH}"),
+    ];
+    assert_eq!(defined, expected);
+}
+
+/// No text is longer than this one. An equivalent of 10^15 leaves no room for all gases at their widest, neither in an
+/// entry nor in the totals, so each line has a byte less than the bound gives it.
+#[test]
+fn the_longest_text_has_room() {
+    let masses = Masses { co2: 202_000_000_000_000, ch4: 20_000_000_000_000, n2o: 1_000_000_000_000 };
+    let numbers = (0..MOST_SOURCES as u32).map(|index| u32::MAX - index);
+    let report = Report::of(2023, numbers.map(|number| Entry { number, method: 3, masses }).collect());
+    let mut written = [0; MOST_TEXT_BYTES];
+    let length = text(&report.bytes(), &mut written).expect("room enough");
+    assert!(written[..length] == report.text());
+    assert_eq!(length, 38_481);
+    assert_eq!(MOST_TEXT_BYTES - length, 1 + MOST_SOURCES);
 }
 
 #[test]
@@ -46,7 +80,7 @@ fn refusals_say_what_is_wrong() {
     let refused = calculate(&boilers(&[7, 7]).bytes(), &mut [0; 136]);
     let refusal = refused.expect_err("a number twice");
     assert_eq!(refusal, Refusal { number: 4, place: 1 });
-    assert_eq!(refusal.to_string(), "the number of source 1 stood earlier in the table");
+    assert_eq!(refusal.to_string(), "source 1, counted from 0, has a number that an earlier source has");
     let error: Box<dyn std::error::Error> = Box::new(refusal);
     assert_eq!(error.to_string(), refusal.to_string());
     assert_eq!(check(&[]), Err(Refusal { number: 9, place: 1 }));
@@ -60,6 +94,16 @@ fn each_refusal_has_its_own_sentence() {
     assert_eq!(different.len(), LAST_REFUSAL as usize);
     assert!(different.iter().all(|sentence| !sentence.starts_with("refused")));
     assert!(Refusal { number: LAST_REFUSAL + 1, place: 3 }.to_string().starts_with("refused"));
+}
+
+/// The place of 3 to 7 is the index of a source or of a line, and of no other refusal.
+#[test]
+fn an_index_is_said_to_be_one() {
+    for number in 1..=LAST_REFUSAL {
+        let sentence = Refusal { number, place: 3 }.to_string();
+        let is_index = sentence.contains("source 3, counted from 0,") || sentence.contains("line 3, counted from 0,");
+        assert_eq!(is_index, (3..=7).contains(&number), "{sentence}");
+    }
 }
 
 #[test]

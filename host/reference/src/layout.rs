@@ -3,6 +3,8 @@
 
 use std::ops::RangeInclusive;
 
+use crate::masses::{MOST_EQUIVALENT, WARMING};
+
 /// "year | 1990 to 2100", of a register and of a report.
 pub const YEARS: RangeInclusive<u64> = 1990..=2100;
 
@@ -59,6 +61,11 @@ pub const ENTRY_LENGTH: usize = figure_at(FIGURES);
 /// The length of the longest report.
 pub const MOST_REPORT_LENGTH: usize = report_length(MOST_SOURCES);
 
+/// No text is longer: the line of the totals and the lines of the most entries, each field as wide as it can be by
+/// itself. All of them at once cannot be, so every text is shorter.
+pub const MOST_TEXT_LENGTH: usize = widest_line([*YEARS.end(), MOST_SOURCES as u64], MOST_SOURCES)
+    + MOST_SOURCES * widest_line([u32::MAX as u64, *METHODS.end()], 1);
+
 /// Where a source entry begins in a register.
 pub const fn source_at(index: usize) -> usize {
     SOURCES_AT + SOURCE_LENGTH * index
@@ -87,4 +94,21 @@ pub const fn figure_at(figure: usize) -> usize {
 /// "whole length 56 + 40n"
 pub const fn report_length(entries: usize) -> usize {
     entry_at(entries)
+}
+
+/// The bytes of a text's line: its two fields in front, then the largest figures that so many sources come to.
+const fn widest_line(front: [u64; 2], sources: usize) -> usize {
+    let most = sources as u128 * MOST_EQUIVALENT;
+    let mut length = field_width(front[0] as u128) + field_width(front[1] as u128) + field_width(most);
+    let mut gas = 0;
+    while gas < GASES {
+        length += field_width(most / WARMING[gas] as u128);
+        gas += 1;
+    }
+    length
+}
+
+/// "One space parts fields, a line feed ends each line, numbers are plain decimals": the digits, and the byte behind.
+const fn field_width(number: u128) -> usize {
+    number.ilog10() as usize + 2
 }

@@ -75,22 +75,30 @@ fn write_generated(dir: &Path, seed: &str, count: &str) -> io::Result<()> {
     write_cases(dir, &cases::generated(number(seed)?, number(count)?))
 }
 
+/// Writes a file only where its bytes differ, since what was built of a file that is younger is built again.
+fn write(path: &Path, bytes: &[u8]) -> io::Result<()> {
+    match std::fs::read(path) {
+        Ok(stored) if stored == bytes => Ok(()),
+        _ => std::fs::write(path, bytes),
+    }
+}
+
 fn write_cases(dir: &Path, groups: &[Group]) -> io::Result<()> {
     std::fs::create_dir_all(dir.join("data"))?;
-    std::fs::write(dir.join("data/calls"), cases::calls(groups))?;
-    std::fs::write(dir.join("stdout"), cases::output(groups))?;
-    std::fs::write(dir.join("calls.txt"), cases::listing(groups))
+    write(&dir.join("data/calls"), &cases::calls(groups))?;
+    write(&dir.join("stdout"), &cases::output(groups))?;
+    write(&dir.join("calls.txt"), cases::listing(groups).as_bytes())
 }
 
 fn write_examples(dir: &Path) -> io::Result<()> {
     for (name, register) in examples::all() {
         let listing = listing::listing(&register).expect("an example's header is right");
-        std::fs::write(dir.join(format!("{name}.register")), &register)?;
-        std::fs::write(dir.join(format!("{name}.txt")), listing)?;
+        write(&dir.join(format!("{name}.register")), &register)?;
+        write(&dir.join(format!("{name}.txt")), listing.as_bytes())?;
     }
     Ok(())
 }
 
 fn write_samples(dir: &Path) -> io::Result<()> {
-    samples::all().iter().try_for_each(|(name, bytes)| std::fs::write(dir.join(name), bytes))
+    samples::all().iter().try_for_each(|(name, bytes)| write(&dir.join(name), bytes))
 }

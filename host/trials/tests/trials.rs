@@ -2,7 +2,7 @@
 
 use reference::call::{Call, Entry};
 use reference::generator::{registers, Random};
-use reference::layout::{report_length, MOST_REPORT_LENGTH, MOST_SOURCES};
+use reference::layout::{report_length, MOST_REPORT_LENGTH, MOST_SOURCES, MOST_TEXT_LENGTH};
 use trials::compared::generated;
 use trials::demand3::dealings;
 use trials::lent::Around;
@@ -65,7 +65,7 @@ fn largest_calls() -> Vec<Call> {
         Call::combine(&first, &second, MOST_REPORT_LENGTH),
         Call::remove(&report, last, report_length(MOST_SOURCES - 1)),
         Call::check(&report),
-        Call::text(&report, 65_536),
+        Call::text(&report, MOST_TEXT_LENGTH),
         Call::name(&register, last),
         Call::name_of_two(&register, &register, last),
     ]

@@ -1,3 +1,4 @@
+use borrow.Author.Needs.{needs}
 use native.Mathlib.Omega.{arith}
 use lib.ListN.{length-take}
 use Rattle.command_files.proofs.Coming.{came-within, came-part}
@@ -8,13 +9,23 @@ pub store-file-spec : {M : Type 1} → statement M
 store-file-spec =
     tie.close
     (tie.spec
-    (λ c κs. tt)
-    (λ c. omega arith)
-    (λ c κs. tt)
-    (λ c. omega arith)
-    (λ c. omega arith)
-    (λ c. omega arith)
+    (search needs)
+    (search needs)
+    (search needs)
+    (search needs)
+    (search needs)
+    (search needs)
+    (λ c. search came-within)
+    (λ c. search came-part)
+    (search needs)
+    (search needs)
+    (search needs)
+    (search needs)
+    (λ c κs. (search came-within, omega arith))
+    (search needs)
+    (search needs)
+    (search needs)
     (λ c. search came-within)
     (λ c. search came-part)
     (λ c κs. simp length-take (omega arith))
-    (λ c. omega arith))
+    (search needs))

@@ -9,7 +9,6 @@ test-header-spec =
     (tie.spec
     (omega arith)
     (omega arith)
-    (omega arith)
     (λ c. search tag-refused)
     (omega arith)
     (omega arith)

@@ -8,8 +8,8 @@ use Rattle.basis.specs.Bytes.{ascii, Written}
 use Rattle.basis.proofs.Bytes.{written-then}
 use Rattle.decimal_write.specs.Digits.{Fronted, field}
 use Rattle.decimal_write.proofs.Fields.{front-is, fronted}
-use Rattle.command_files.specs.declared.Made.{Made}
-use Rattle.command_files.specs.declared.Made.the-variants.{Open}
+use Rattle.command_files.specs.declared.result.Made.{Made}
+use Rattle.command_files.specs.declared.result.Made.the-variants.{Open}
 use Rattle.command_files.specs.Files.{Front, Named, beside}
 
 module _ (number : ℕ) {name path one two three line line₀ : List ℕ} {n : ℕ} (f : Fronted line₀ (field number 126) line n) where

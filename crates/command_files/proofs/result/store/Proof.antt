@@ -1,7 +1,7 @@
 use native.Mathlib.Omega.{arith}
-use Rattle.command_files.proofs.Names.{named-within, named-part}
-use Rattle.command_files.proofs.store.Statement.{statement}
-use Rattle.command_files.proofs.store.Tie as tie
+use Rattle.command_files.proofs.result.Names.{named-within, named-part}
+use Rattle.command_files.proofs.result.store.Statement.{statement}
+use Rattle.command_files.proofs.result.store.Tie as tie
 
 pub store-spec : {M : Type 1} → statement M
 store-spec =
@@ -12,7 +12,7 @@ store-spec =
     (λ c. omega arith)
     (λ c. omega arith)
     (λ c κs. tt)
-    (λ c. omega arith)
+    (λ c. search)
     (λ c κs. tt)
     (λ c. search named-within)
     (λ c. search named-part)
@@ -20,5 +20,5 @@ store-spec =
     (λ c. search named-within)
     (λ c. search named-part)
     (λ c κs. tt)
-    (λ c. omega arith)
-    (λ c. omega arith))
+    (λ c. search)
+    (λ c. search))

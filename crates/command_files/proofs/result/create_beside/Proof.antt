@@ -2,8 +2,8 @@ use mathlib.Core.Path.{_≡_}
 use Prim.Native.Nat.{_-_, _≤_}
 use native.Mathlib.Omega.{arith}
 use lib.ListN.{length}
-use Rattle.command_files.proofs.create_beside.Statement.{statement}
-use Rattle.command_files.proofs.create_beside.Tie as tie
+use Rattle.command_files.proofs.result.create_beside.Statement.{statement}
+use Rattle.command_files.proofs.result.create_beside.Tie as tie
 
 abbrev Inv-loop : tie.InvT-loop
 Inv-loop path name₀ number₀ name number = (length name ≡ length name₀) × (number ≤ 1000)

@@ -1,7 +1,7 @@
 use native.Mathlib.Omega.{arith}
-use Rattle.command_files.proofs.Names.{beside-put}
-use Rattle.command_files.proofs.put_beside.Statement.{statement}
-use Rattle.command_files.proofs.put_beside.Tie as tie
+use Rattle.command_files.proofs.result.Names.{beside-put}
+use Rattle.command_files.proofs.result.put_beside.Statement.{statement}
+use Rattle.command_files.proofs.result.put_beside.Tie as tie
 
 pub put-beside-spec : {M : Type 1} → statement M
 put-beside-spec =

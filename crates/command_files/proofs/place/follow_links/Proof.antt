@@ -1,0 +1,44 @@
+use mathlib.Core.Path.{_≡_}
+use Prim.Native.Nat.{_-_, _≤_}
+use native.Mathlib.Omega.{arith}
+use lib.ListN.{length, length-take}
+use Rattle.basis.proofs.Lists.{counted}
+use Rattle.command_files.proofs.Coming.{came-within, came-part, fronting}
+use Rattle.command_files.proofs.place.Laws.{led-within}
+use Rattle.command_files.proofs.place.follow_links.Statement.{statement}
+use Rattle.command_files.proofs.place.follow_links.Tie as tie
+
+abbrev Inv-loop : tie.InvT-loop
+Inv-loop room₀ n end₀ links₀ room end links = (end ≤ length room) × (length room ≡ length room₀) × (links ≤ 40)
+
+abbrev μ-loop : tie.MeasureT-loop
+μ-loop room₀ n end₀ links₀ room end links = 40 - links
+
+pub follow-links-spec : {M : Type 1} → statement M
+follow-links-spec =
+    tie.close
+    (tie.spec
+    Inv-loop
+    μ-loop
+    (λ c. omega arith)
+    (λ c κs. tt)
+    (λ c. omega arith)
+    (λ c. counted _ _ (omega arith))
+    (λ c. omega arith)
+    (λ c κs. simp length-take (omega arith))
+    (λ c. omega arith)
+    (λ c. omega arith)
+    (λ c. omega arith)
+    (λ c. fronting _ _ (omega arith))
+    (λ c. search came-within)
+    (λ c. search came-part)
+    (λ c κs. omega arith)
+    (λ c. omega arith)
+    (λ c. omega arith)
+    (λ c. omega arith)
+    (λ c. fronting _ _ (omega arith))
+    (λ c. omega arith)
+    (λ c. omega arith)
+    (λ c. let l = led-within _ _ _ _ _ (c .before .before .before .before .before .put-link .ensures) (c .before .led .given .1) in omega (arith, l))
+    (λ c. omega arith)
+    (λ c. fronting _ _ (omega arith)))
