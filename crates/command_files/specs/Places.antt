@@ -2,7 +2,7 @@
 use mathlib.Core.Bool.{Bool, cond}
 use mathlib.Core.List.{List, _++_}
 use mathlib.Core.Path.{_≡_}
-use Prim.Native.Nat.{ℕ, zero, suc, _<_}
+use Prim.Native.Nat.{ℕ, zero, suc, _≤_, _<_}
 use lib.Dec.{eqb}
 use lib.ListN.{length, getD, take}
 use Rattle.basis.specs.Bytes.{startsWith}
@@ -33,7 +33,7 @@ textAt text room n = cond (isSlash text 0) 0 (folderLength room n)
 unfoldable pub ledTo : List ℕ → List ℕ → ℕ → List ℕ
 ledTo text room n = take (textAt text room n) room ++ text
 
--- the path in the link's place, or the room as it was if that is too short for it
+-- the path in the link's place, with room for the 0 behind it; or the room as it was if there is none
 abbrev pub Led : List ℕ → List ℕ → ℕ → Input → List ℕ → Type 0
-Led text room n Failed after = (length room < length (ledTo text room n)) × (after ≡ room)
-Led text room n (Came m) after = Fronted room (ledTo text room n) after m
+Led text room n Failed after = (length room ≤ length (ledTo text room n)) × (after ≡ room)
+Led text room n (Came m) after = (length (ledTo text room n) < length room) × Fronted room (ledTo text room n) after m

@@ -173,14 +173,14 @@ fn store_file(i: usize, bytes: &[u8]) -> bool {
     let Input::Came(n) = word else {
         return false;
     };
-    let place = place::judge_place(&path[..n]);
-    if let Place::Barred = place {
-        return false;
-    }
     let end = place::follow_links(&mut path, n);
     let Input::Came(m) = end else {
         return false;
     };
+    let place = place::judge_place(&path[..m]);
+    if let Place::Barred = place {
+        return false;
+    }
     result::store(&path[..m], place, bytes)
 }
 

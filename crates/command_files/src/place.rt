@@ -1,9 +1,9 @@
 // The place of a result: what stands there, and where links lead from it.
 ghost use mathlib.Core.Path.{_≡_};
-ghost use Prim.Native.Nat.{_≤_};
+ghost use Prim.Native.Nat.{_≤_, _<_};
 ghost use lib.ListN.{length};
 ghost use Rattle.libc.specs.Io.{Ended};
-ghost use Rattle.command_files.specs.Files.{Within};
+ghost use Rattle.command_files.specs.Files.{came, Within};
 ghost use Rattle.command_files.specs.Places.{frontJudged, isSlash, folderLength, textAt, Led};
 use crate::Input;
 use crate::complain_of;
@@ -14,7 +14,7 @@ use libc::PATH_MAX;
 // The last byte of the system's paths, which is 0.
 const LAST: usize = PATH_MAX - 1;
 
-// So many links are followed at most, as by the system.
+// The system follows so many links at most.
 const LINKS: usize = 40;
 
 // What no result replaces; nothing; or a plain file, with its mode.
@@ -110,7 +110,7 @@ fn read_front(fd: i32, mode: u32, front: &mut [u8]) -> Input
     read_all(fd, front)
 }
 
-// What stands at a path, behind links. A file that may not be read and written is not replaced: what cannot be read may be a register.
+// What stands at a path that is no link. A file that may not be read and written is not replaced: what cannot be read may be a register.
 // It is closed before a word is said, since where standard error is closed it may have that number.
 pub fn judge_place(path: &[u8]) -> Place
     ensures { λ _. ⌜ now (path .exit) ≡ now (path .entry) ⌝ }
@@ -136,7 +136,7 @@ pub fn judge_place(path: &[u8]) -> Place
 
 // A path as the system takes it.
 fn ended(path: &[u8]) -> [u8; PATH_MAX]
-    requires { ⌜ length (now path) ≤ 4096 ⌝ }
+    requires { ⌜ length (now path) < 4096 ⌝ }
     ensures { λ r. ⌜ Ended r ⌝ }
 {
     let mut ended = io::buffer();
@@ -145,15 +145,29 @@ fn ended(path: &[u8]) -> [u8; PATH_MAX]
     ended
 }
 
-// Where the link at a path leads, as it is written there; nothing comes where no link stands.
+// Nothing comes where no link stands. What else keeps it from being read is told.
+fn come_without_link(path: &[u8]) -> Input
+    ensures { λ r. ⌜ came r ≡ 0 ⌝ }
+{
+    let error = os::errno();
+    if error == libc::EINVAL || error == libc::ENOENT {
+        return Input::Came(0);
+    }
+    fail(path);
+    Input::Failed
+}
+
+// Where the link at a path leads, as it is written there. What is too long for a path is opened later, which tells so.
 fn read_link(path: &[u8], text: &mut [u8]) -> Input
-    requires { ⌜ length (now path) ≤ 4096 ⌝ }
     ensures { λ r. ⌜ Within r (now (text .exit)) ⌝ }
 {
+    if PATH_MAX <= path.len() {
+        return Input::Came(0);
+    }
     let link = ended(path);
     let got = libc::readlink(&link, text);
     if got < 0 {
-        return Input::Failed;
+        return come_without_link(path);
     }
     Input::Came(io::count(got, text))
 }
@@ -201,7 +215,7 @@ fn put_link(text: &[u8], room: &mut [u8], n: usize) -> Input
     ensures { λ r. ⌜ Led (now (text .entry)) (now (room .entry)) n r (now (room .exit)) ⌝ }
 {
     let at = text_at(text, room, n);
-    if room.len() - at < text.len() {
+    if room.len() - at <= text.len() {
         complain_of(&room[..n], b": a link to a path that is too long\n");
         return Input::Failed;
     }
@@ -212,17 +226,19 @@ fn put_link(text: &[u8], room: &mut [u8], n: usize) -> Input
 // Puts in the place of a path, the first n bytes of its room, the one to which links lead from it, and says how long that is.
 pub fn follow_links(room: &mut [u8], n: usize) -> Input
     requires { ⌜ n ≤ length (now room) ⌝ }
-    requires { ⌜ length (now room) ≤ 4096 ⌝ }
     ensures { λ r. ⌜ Within r (now (room .exit)) ⌝ }
 {
     let mut end = n;
     let mut links: usize = 0;
-    while links < LINKS {
+    while links <= LINKS {
         let mut text = io::buffer();
         let link = read_link(&room[..end], &mut text);
         let Input::Came(m) = link else {
-            return Input::Came(end);
+            return Input::Failed;
         };
+        if m == 0 {
+            return Input::Came(end);
+        }
         let led = put_link(&text[..m], room, end);
         let Input::Came(k) = led else {
             return Input::Failed;
@@ -230,5 +246,6 @@ pub fn follow_links(room: &mut [u8], n: usize) -> Input
         end = k;
         links += 1;
     }
-    Input::Came(end)
+    complain_of(&room[..end], b": too many links\n");
+    Input::Failed
 }

@@ -85,8 +85,11 @@ module _ (text room : List ℕ) (n : ℕ) {at : ℕ} (e : at ≡ textAt text roo
   unfolding ledTo
   led-length = rw (sym e) (omega (arith, length-append (take at room) text, length-take-le at room text-within))
 
-  pub led-past : length room - at < length text → length room < length (ledTo text room n)
+  pub led-past : length room - at ≤ length text → length room ≤ length (ledTo text room n)
   led-past p = omega (arith, led-length, text-within)
+
+  pub led-fits : length text < length room - at → length (ledTo text room n) < length room
+  led-fits p = omega (arith, led-length, text-within)
 
   led-written : {after : List ℕ} → Written room at text after → Written room 0 (ledTo text room n) after
   unfolding ledTo
@@ -97,4 +100,4 @@ module _ (text room : List ℕ) (n : ℕ) {at : ℕ} (e : at ≡ textAt text roo
 
 -- the end of a path that a link led to lies within its room
 pub led-within : (text room : List ℕ) (n : ℕ) (led : Input) (after : List ℕ) {k : ℕ} → Led text room n led after → led ≡ Came k → k ≤ length after
-led-within text room n led after {k} w e = let f : Fronted room (ledTo text room n) after k = rw e at w in f .within
+led-within text room n led after {k} w e = let f : Led text room n (Came k) after = rw e at w in f .1 .within

@@ -1,7 +1,7 @@
 use borrow.Author.Needs.{needs}
 use native.Mathlib.Omega.{arith}
 use Rattle.basis.proofs.Lists.{counted}
-use Rattle.command_files.proofs.place.Laws.{text-within, led-past, led-put}
+use Rattle.command_files.proofs.place.Laws.{text-within, led-past, led-fits, led-put}
 use Rattle.command_files.proofs.place.put_link.Statement.{statement}
 use Rattle.command_files.proofs.place.put_link.Tie as tie
 
@@ -20,4 +20,4 @@ put-link-spec =
     (λ c κs. omega (arith, text-within _ _ _ (c .before .before .text-at .ensures) (c .before .before .before .before .before .before .pre)))
     (search needs)
     (search needs)
-    (λ c. search led-put))
+    (λ c. (search led-fits, search led-put)))
