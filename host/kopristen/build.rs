@@ -20,8 +20,8 @@ fn named(folder: OsString) -> PathBuf {
 }
 
 /// The folder with a copy of the library that `host/library` makes: each run writes that file anew and the gate removes
-/// it, so its sources are watched. All of `crates` is, as by the front door, since a needless run after a must-fail
-/// edit costs less than a list to keep.
+/// it, so its sources are watched. All of `crates` is, since a needless run after a must-fail edit costs less than a
+/// list to keep.
 fn made() -> PathBuf {
     let host = concat!(env!("CARGO_MANIFEST_DIR"), "/..");
     for source in ["../crates", "../crates.txt", "library"] {

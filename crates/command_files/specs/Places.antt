@@ -1,5 +1,5 @@
 -- The place of a result: what may be replaced there, and where a link leads that stands at a path, the first n bytes of a room. Assumes nothing.
-use mathlib.Core.Bool.{Bool, cond}
+use mathlib.Core.Bool.{Bool, true, cond}
 use mathlib.Core.List.{List, _++_}
 use mathlib.Core.Path.{_≡_}
 use Prim.Native.Nat.{ℕ, zero, suc, _≤_, _<_}
@@ -16,6 +16,10 @@ use Rattle.command_files.specs.declared.place.Place.the-variants.{Barred
 -- a register is never replaced
 abbrev pub frontJudged : List ℕ → ℕ → Place
 frontJudged front mode = cond (startsWith registerTag front) Barred (Plain mode)
+
+-- whatever else is found of a file, one that begins as a register does is barred
+abbrev pub Spared : List ℕ → Place → Type 0
+Spared front place = startsWith registerTag front ≡ true → place ≡ Barred
 
 -- a slash stands there
 abbrev pub isSlash : List ℕ → ℕ → Bool

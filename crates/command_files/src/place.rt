@@ -4,7 +4,7 @@ ghost use Prim.Native.Nat.{_≤_, _<_};
 ghost use lib.ListN.{length};
 ghost use Rattle.libc.specs.Io.{Ended};
 ghost use Rattle.command_files.specs.Files.{came, Within};
-ghost use Rattle.command_files.specs.Places.{frontJudged, isSlash, folderLength, textAt, Led};
+ghost use Rattle.command_files.specs.Places.{frontJudged, Spared, isSlash, folderLength, textAt, Led};
 use crate::Input;
 use crate::complain_of;
 use crate::fail;
@@ -88,6 +88,7 @@ fn is_plain(mode: u32) -> bool {
 // What is no plain file is not replaced, as a rename would. A line on standard error says why a place is barred.
 fn judge_found(front: &[u8; 4], mode: u32, path: &[u8]) -> Place
     requires { ⌜ 4 ≤ length (now front) ⌝ }
+    ensures { λ r. ⌜ Spared (now (front .entry)) r ⌝ }
 {
     if !is_plain(mode) {
         complain_of(path, b": no plain file, so no result takes its place\n");

@@ -1,11 +1,11 @@
 -- What may be replaced and where a link leads, in laws. Assumes nothing.
 use mathlib.Core.Bool.{Bool, true, false, cond}
-use mathlib.Core.List.{List, _++_}
+use mathlib.Core.List.{List}
 use mathlib.Core.Path.{_≡_, refl, sym, _∙_}
 use Prim.Native.Nat.{ℕ, zero, suc, _+_, _-_, _≤_, _<_}
 use native.Mathlib.Nat.{zero-add}
 use native.Mathlib.Omega.{arith}
-use lib.ListN.{length, take, drop, length-append, take-append-drop, List·getD-eq-default}
+use lib.ListN.{length, take, length-append, take-append-drop, List·getD-eq-default}
 use lib.Seq.{length-take-le}
 use Rattle.basis.specs.Bytes.{splice, startsWith, Written}
 use Rattle.basis.proofs.Bytes.{written-then}
@@ -14,8 +14,9 @@ use Rattle.decimal_write.specs.Digits.{Fronted}
 use Rattle.decimal_write.proofs.Fields.{fronted}
 use Rattle.command_files.specs.declared.Input.{Input}
 use Rattle.command_files.specs.declared.Input.the-variants.{Came}
+use Rattle.command_files.specs.declared.place.Place.{Place}
 use Rattle.command_files.specs.declared.place.Place.the-variants.{Barred, Plain}
-use Rattle.command_files.specs.Places.{frontJudged, isSlash, folderLength, textAt, ledTo, Led}
+use Rattle.command_files.specs.Places.{frontJudged, Spared, isSlash, folderLength, textAt, ledTo, Led}
 
 module _ (front : List ℕ) (mode : ℕ) {tagged : Bool} (e : tagged ≡ startsWith registerTag front) where
   pub front-barred : tagged ≡ true → Barred ≡ frontJudged front mode
@@ -23,6 +24,9 @@ module _ (front : List ℕ) (mode : ℕ) {tagged : Bool} (e : tagged ≡ startsW
 
   pub front-plain : tagged ≡ false → Plain mode ≡ frontJudged front mode
   front-plain f = rw (sym e ∙ f) refl
+
+pub judged-spared : (front : List ℕ) (mode : ℕ) {place : Place} → place ≡ frontJudged front mode → Spared front place
+judged-spared front mode e = λ t. e ∙ rw t refl
 
 slash-here : (room : List ℕ) (n : ℕ) → isSlash room n ≡ true → folderLength room (suc n) ≡ suc n
 unfolding folderLength
@@ -66,7 +70,7 @@ unfolding folderLength
 folder-fits room zero = omega arith
 folder-fits room (suc n) = either-fits (isSlash room n) (omega arith) (omega (arith, folder-fits room n))
 
-pub text-fits : (text room : List ℕ) (n : ℕ) → textAt text room n ≤ n
+text-fits : (text room : List ℕ) (n : ℕ) → textAt text room n ≤ n
 unfolding textAt
 text-fits text room n = either-fits (isSlash text 0) (omega arith) (folder-fits room n)
 
