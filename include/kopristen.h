@@ -33,8 +33,15 @@ extern "C" {
 #define KOPRISTEN_MOST_REPORT_BYTES KOPRISTEN_REPORT_BYTES(KOPRISTEN_MOST_SOURCES)
 #define KOPRISTEN_MOST_TEXT_BYTES 38994
 
-/* Acceptance is number 0, place 0 and a length. A refusal has its number and place of the table in docs/FORMATS.md, where sources and
- * lines are counted from 0, and length 0. */
+/* Stock cards: the most in a call; lengths in bytes of so many cards and of the most, and of their amounts. */
+#define KOPRISTEN_MOST_CARDS 1024
+#define KOPRISTEN_CARDS_BYTES(cards) (32 * (size_t)(cards))
+#define KOPRISTEN_MOST_CARDS_BYTES KOPRISTEN_CARDS_BYTES(KOPRISTEN_MOST_CARDS)
+#define KOPRISTEN_AMOUNTS_BYTES(cards) (8 * (size_t)(cards))
+#define KOPRISTEN_MOST_AMOUNTS_BYTES KOPRISTEN_AMOUNTS_BYTES(KOPRISTEN_MOST_CARDS)
+
+/* Acceptance is number 0, place 0 and a length. A refusal has its number and place of the table in docs/FORMATS.md, where sources,
+ * lines and cards are counted from 0, and length 0. */
 struct kopristen_answer {
     uint32_t number;
     uint64_t place;
@@ -80,6 +87,13 @@ struct kopristen_part kopristen_name(const uint8_t *register_bytes, size_t regis
 /* The same over two registers. There is none also where the number stands in both. */
 struct kopristen_found kopristen_name_of_two(const uint8_t *plant, size_t plant_length, const uint8_t *contractor,
                                              size_t contractor_length, uint32_t number);
+
+/* Works out the amounts of stock cards and writes them to the front of the buffer, in the order of the cards; bytes behind the
+ * answered length stay. A card is four 8-byte numbers, little-endian, in thousandths of the card's unit: received, dispatched, opening
+ * stock, closing stock. Its amount is received less dispatched, plus opening, less closing: one such number, and the quantity Q of a
+ * line. Zero cards are accepted with length 0. Refuses with 14, 15 and 8, and then the buffer stays as it was.
+ * KOPRISTEN_AMOUNTS_BYTES of the cards are room enough, and KOPRISTEN_MOST_AMOUNTS_BYTES always are. */
+struct kopristen_answer kopristen_amounts(const uint8_t *cards, size_t cards_length, uint8_t *amounts, size_t room);
 
 #ifdef __cplusplus
 }

@@ -6,7 +6,7 @@
 
 #include "kopristen.h"
 
-enum { CALCULATE = 1, COMBINE, REMOVE, CHECK, TEXT, NAME, NAME_OF_TWO };
+enum { CALCULATE = 1, COMBINE, REMOVE, CHECK, TEXT, NAME, NAME_OF_TWO, AMOUNTS };
 enum { MOST = KOPRISTEN_MOST_REGISTER_BYTES + 1, NUMBERS = 20, LABEL = 44 };
 
 static uint8_t first[MOST], second[MOST], buffer[MOST];
@@ -36,6 +36,7 @@ static struct kopristen_answer answer_of(int entry, size_t one, size_t other, ui
     case COMBINE: return kopristen_combine(first, one, second, other, buffer, room);
     case REMOVE: return kopristen_remove(first, one, number, buffer, room);
     case CHECK: return kopristen_check(first, one);
+    case AMOUNTS: return kopristen_amounts(first, one, buffer, room);
     default: return kopristen_text(first, one, buffer, room);
     }
 }

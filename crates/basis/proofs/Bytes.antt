@@ -3,9 +3,10 @@ use mathlib.Core.Path.{_≡_, refl, ap, _∙_}
 use mathlib.Core.List.{List, [], _∷_, _++_, append-assoc, append-nil}
 use Prim.Native.Nat.{ℕ, zero, suc, _+_, _*_, _/_, _%_, _^_, _≤_, _<_}
 use native.Mathlib.Nat.{add-assoc, add-zero, zero-add, suc-add, pow-suc, not-suc-le-zero, le-of-suc-le-suc}
+use native.Mathlib.Numerals.{add-one}
 use native.Mathlib.Omega.{arith}
-use lib.ListN.{length, take, drop, getD, length-append, length-take, length-drop, take-append-drop}
-use lib.Seq.{take-nil, take-append-le, drop-append-le, take-at, drop-at, drop-drop, length-take-le}
+use lib.ListN.{length, take, drop, getD, set, length-append, length-take, length-drop, take-append-drop}
+use lib.Seq.{set-split, take-nil, take-append-le, drop-append-le, take-at, drop-at, drop-drop, length-take-le}
 use Rattle.basis.specs.Bytes.{bytesOf, numberOf, numberAt, packed, Bytes, splice, Written}
 use Rattle.basis.specs.Lists.{sum}
 
@@ -84,6 +85,11 @@ splice-splice xs at ys zs h =
 
 pub length-written : {xs ys zs : List ℕ} {at : ℕ} → Written xs at ys zs → length zs ≡ length xs
 length-written {xs} {ys} {zs} {at} w = ap length (w .is) ∙ length-splice xs at ys (w .fits)
+
+-- a number that is stored is written
+pub written-one : (xs : List ℕ) (at x : ℕ) → at < length xs → Written xs at (x ∷ []) (set xs at x)
+unfolding splice
+written-one xs at x h = record { fits = omega arith; is = simp (set-split, add-one, append-assoc) }
 
 pub written-then : {xs ys zs us vs : List ℕ} {at n : ℕ} → Written xs at ys zs → Written zs n us vs → n ≡ at + length ys → Written xs at (ys ++ us) vs
 written-then {xs} {ys} {us = us} {at = at} w v e =

@@ -85,6 +85,11 @@ sum-widths w n zero l = omega arith
 sum-widths w zero (suc k) l = absurd (not-suc-le-zero l)
 sum-widths w (suc n) (suc k) l = rw (sum-widths w n k (le-of-suc-le-suc l)) (omega arith)
 
+pub sum-alike : (w n : ℕ) → sum (replicate n w) ≡ w * n
+unfolding sum
+sum-alike w zero = omega arith
+sum-alike w (suc n) = rw (sum-alike w n) (omega arith)
+
 pub sum-bounded : {A : Type 0} (f : A → ℕ) (P : A → Type 0) (b : ℕ) → ((x : A) → P x → f x ≤ b) → (xs : List A) → Each P xs → sum (map f xs) ≤ b * length xs
 unfolding sum
 sum-bounded f P b h [] p = zero-le

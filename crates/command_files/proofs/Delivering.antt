@@ -1,11 +1,12 @@
--- What a call that makes a report has left is what its answer says. Assumes nothing.
+-- What a call that makes a file has left is what its answer says. Assumes nothing.
 use mathlib.Core.List.{List}
 use Prim.Native.Nat.{ℕ}
 use borrow.Author.Needs.{needs}
 use Rattle.basis.specs.declared.Answer.{Answer}
 use Rattle.basis.specs.declared.Verdict.{Verdict}
 use Rattle.basis.specs.Answers.{Gives}
-use Rattle.meaning.specs.Calls.{written, calculationTests, calculatedReport, calculated, combinationTests, combinedReport, combined, removalTests, removedReport, removed}
+use Rattle.meaning.specs.Calls.{written, calculationTests, calculatedReport, calculated, combinationTests, combinedReport, combined, removalTests, removedReport, removed, amounts}
+use Rattle.meaning.specs.Cards.{cardTests, amountBytes}
 use Rattle.command_answer.proofs.Saying.{written-front}
 use Rattle.command_files.specs.Files.{Front}
 
@@ -25,4 +26,8 @@ module _ {a : Answer} {left : List ℕ} where
   unfolding removed
   removed-front report number result g = made-front (removalTests report number) (removedReport report number) result g
 
-pub ruleset delivering = (needs, calculated-front, combined-front, removed-front)
+  pub amounts-front : (cards buffer : List ℕ) → Gives (amounts cards buffer) a left → Front (a .length) left
+  unfolding amounts
+  amounts-front cards buffer g = made-front (cardTests cards) (amountBytes cards) buffer g
+
+pub ruleset delivering = (needs, calculated-front, combined-front, removed-front, amounts-front)

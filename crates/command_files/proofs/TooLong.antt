@@ -1,10 +1,12 @@
--- Two inputs that are longer than a report can be are answered alike by every call on reports, and two that are longer than a register can be by
--- the lookups. Assumes nothing.
+-- Two inputs that are longer than a report can be are answered alike by every call on reports, two that are longer than a register can be by the
+-- lookups, and two that are longer than stock cards can be by the call on cards. Assumes nothing.
 use mathlib.Core.Bool.{Bool, true, false, and-false}
 use mathlib.Core.List.{List, [], _∷_}
 use mathlib.Core.Path.{_≡_, refl}
-use Prim.Native.Nat.{ℕ, _≤_}
+use Prim.Native.Nat.{ℕ, _+_, _*_, _%_, _≤_}
+use native.Mathlib.Decide.{ℕ-discrete}
 use native.Mathlib.Omega.{arith}
+use borrow.Author.Tests.{lt-ltb, eq-eqb, ne-eqb}
 use lib.ListN.{length}
 use Rattle.basis.specs.declared.Verdict.{Verdict}
 use Rattle.basis.specs.declared.Verdict.the-variants.{Passes, Refuses}
@@ -12,7 +14,8 @@ use Rattle.basis.specs.Answers.{firstRefusal, passes}
 use Rattle.basis.proofs.Bools.{not-both}
 use Rattle.meaning.specs.Register.{registerTests}
 use Rattle.meaning.specs.Report.{wellFormed}
-use Rattle.meaning.specs.Calls.{formTest, combinationTests, combinedReport, combined, removalTests, removedReport, removed, text, accepted, found, foundOfTwo}
+use Rattle.meaning.specs.Cards.{cardLength, mostCards, cardCount, cardsTest, cardTests, amountBytes}
+use Rattle.meaning.specs.Calls.{formTest, combinationTests, combinedReport, combined, removalTests, removedReport, removed, text, amounts, accepted, found, foundOfTwo}
 use Rattle.meaning.specs.Programs.{reportRoom}
 use Rattle.meaning.proofs.Reports.{formed}
 use Rattle.meaning.proofs.Registers.{right-register}
@@ -70,3 +73,19 @@ module _ (b c : List ℕ) (l : registerRoom ≤ length b) (m : registerRoom ≤ 
   pub contractor-alike : (plant : List ℕ) → foundOfTwo plant b number ≡ foundOfTwo plant c number
   unfolding foundOfTwo
   contractor-alike plant = rw (not-accepted b l, not-accepted c m, and-false (accepted plant))
+
+-- one byte more than the longest file of stock cards
+abbrev pub cardsRoom : ℕ
+cardsRoom = cardLength * mostCards + 1
+
+too-many : (b : List ℕ) → cardsRoom ≤ length b → cardsTest b ≡ Refuses 14 0
+too-many b l = by (ℕ-discrete (length b % cardLength) 0)
+  where
+    by : Dec (length b % cardLength ≡ 0) → cardsTest b ≡ Refuses 14 0
+    by (no f) = rw (ne-eqb (length b % cardLength) 0 f)
+    by (yes e) = rw (eq-eqb (length b % cardLength) 0 e, lt-ltb mostCards (cardCount b) (omega arith))
+
+pub amounts-alike : (b c : List ℕ) → cardsRoom ≤ length b → cardsRoom ≤ length c → (buffer : List ℕ) → amounts b buffer ≡ amounts c buffer
+unfolding amounts firstRefusal
+amounts-alike b c l m buffer =
+    refused-alike (cardTests b) (cardTests c) (amountBytes b) (amountBytes c) buffer {n = 14} {p = 0} (rw (too-many b l)) (rw (too-many c m))

@@ -9,6 +9,7 @@ use basis::Answer;
 use command_answer::LINE_ROOM;
 use decimal_read::Numeral;
 use decimal_read::numeral_in;
+use input_stock_cards::LONGEST_CARDS;
 use libc::STDERR_FILENO;
 use libc::STDOUT_FILENO;
 use place::Place;
@@ -20,6 +21,9 @@ pub const REGISTER_ROOM: usize = LONGEST_REGISTER + 1;
 
 // One byte more than the longest report, likewise.
 pub const REPORT_ROOM: usize = LONGEST_REPORT + 1;
+
+// One byte more than the longest file of stock cards, likewise.
+pub const CARDS_ROOM: usize = LONGEST_CARDS + 1;
 
 // How many bytes came, or that they could not be had, which is no refusal.
 pub enum Input {
@@ -184,20 +188,28 @@ fn store_file(i: usize, bytes: &[u8]) -> bool {
     result::store(&path[..m], place, bytes)
 }
 
-// Ends a command that makes a report. An acceptance is said when the result, which word i names, is in its place.
-pub fn deliver(answer: Answer, report: &[u8], i: usize)
-    requires { ⌜ Front (answer .length) (now report) ⌝ }
-    ensures { λ _. ⌜ now (report .exit) ≡ now (report .entry) ⌝ }
+// Ends a command that makes a file, with what it says. An acceptance is said when the result, which word i names, is in its place.
+pub fn deliver_saying(answer: Answer, made: &[u8], i: usize, text: &[u8])
+    requires { ⌜ Front (answer .length) (now made) ⌝ }
+    ensures { λ _. ⌜ now (made .exit) ≡ now (made .entry) ⌝ }
 {
     let number = answer.number;
     if number == 0 {
         let n = answer.length as usize;
-        let kept = store_file(i, &report[..n]);
+        let kept = store_file(i, &made[..n]);
         if !kept {
             return;
         }
     }
+    say(text);
+}
+
+// Ends a command that makes a report: it says the answer.
+pub fn deliver(answer: Answer, report: &[u8], i: usize)
+    requires { ⌜ Front (answer .length) (now report) ⌝ }
+    ensures { λ _. ⌜ now (report .exit) ≡ now (report .entry) ⌝ }
+{
     let mut line = [0u8; LINE_ROOM];
     let n = command_answer::answer_line(answer, &mut line);
-    say(&line[..n]);
+    deliver_saying(answer, report, i, &line[..n]);
 }

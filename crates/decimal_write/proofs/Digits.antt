@@ -3,12 +3,11 @@ use mathlib.Core.List.{List, [], _∷_, _++_, append-assoc, append-nil}
 use mathlib.Core.Path.{_≡_, refl, sym, ap, _∙_}
 use Prim.Native.Nat.{ℕ, zero, suc, _+_, _-_, _/_, _%_, _≤_, _<_}
 use native.Mathlib.Decide.{decLt}
-use native.Mathlib.Numerals.{add-one}
 use native.Mathlib.Omega.{arith}
 use lib.ListN.{length, take, drop, set, length-append}
-use lib.Seq.{set-split, drop-at, drop-drop, length-take-le}
+use lib.Seq.{drop-at, drop-drop, length-take-le}
 use Rattle.basis.specs.Bytes.{Bytes, bytesOf, numberOf, splice, Written}
-use Rattle.basis.proofs.Bytes.{length-written, append-bytes, bytesOf-numberOf}
+use Rattle.basis.proofs.Bytes.{length-written, written-one, append-bytes, bytesOf-numberOf}
 use Rattle.meaning.specs.Text.{digit, decimal}
 use Rattle.meaning.proofs.Decimals.{decimal-one, decimal-more}
 use Rattle.decimal_write.specs.Digits.{Counted, Ends, Put}
@@ -72,11 +71,6 @@ tail-eight n l = by (decLt n 10000)
     by : Dec (n < 10000) → Tail (fourDigits (n / 10000) ++ fourDigits (n % 10000)) n
     by (yes s) = let e : n % 10000 ≡ n = omega arith in rw e (tail-low (fourDigits (n / 10000)) (tail-four n s))
     by (no s) = tail-high (fourDigits (n % 10000)) (tail-four (n / 10000) (omega arith)) (four-more n (omega arith))
-
--- a byte that is stored is written
-pub written-one : (xs : List ℕ) (at x : ℕ) → at < length xs → Written xs at (x ∷ []) (set xs at x)
-unfolding splice
-written-one xs at x h = record { fits = omega arith; is = simp (set-split, add-one, append-assoc) }
 
 -- what is written is put
 pub put-written : {xs ys zs : List ℕ} {at end : ℕ} → Written xs at ys zs → end ≡ at + length ys → Put xs at ys zs end

@@ -10,11 +10,11 @@ use lib.ListN.{length, take, drop, set, length-append, length-set}
 use lib.Seq.{take-at}
 use Rattle.basis.proofs.Lists.{counted}
 use Rattle.basis.specs.Bytes.{splice, Written}
-use Rattle.basis.proofs.Bytes.{length-written}
+use Rattle.basis.proofs.Bytes.{length-written, written-one}
 use Rattle.meaning.specs.Text.{decimal}
 use Rattle.decimal_write.specs.Digits.{field, pair, Ends, Put, Placed, Fronted}
 use Rattle.decimal_write.proofs.Counts.{twenty-digits}
-use Rattle.decimal_write.proofs.Digits.{written-one, put-written, put-before}
+use Rattle.decimal_write.proofs.Digits.{put-written, put-before}
 
 pub length-field : (n after : ℕ) → length (field n after) ≡ length (decimal n) + 1
 unfolding field

@@ -1,9 +1,9 @@
 -- What demands 1 and 2 say of each call holds of the meaning's. Assumes nothing.
 use mathlib.Core.Bool.{true, not}
-use mathlib.Core.List.{List, [], _∷_, _++_, Perm}
+use mathlib.Core.List.{List, [], _∷_, _++_, map, map-map, Perm}
 use mathlib.Core.Logic.{inl, inr, _≢_}
 use mathlib.Core.Path.{_≡_, refl, sym, ap, subst, _∙_}
-use Prim.Native.Nat.{ℕ, _≤_}
+use Prim.Native.Nat.{ℕ, _*_, _/_, _≤_, _<_}
 use native.Mathlib.Omega.{arith}
 use lib.Dec.{eqb}
 use lib.ListN.{length, getD, drop, replicate, length-replicate}
@@ -12,32 +12,34 @@ use borrow.Author.Tests.{eqb-true, not-false}
 use Rattle.basis.specs.declared.Answer.{Answer}
 use Rattle.basis.specs.declared.Verdict.{Verdict}
 use Rattle.basis.specs.declared.Verdict.the-variants.{Passes, Refuses}
-use Rattle.basis.specs.Bytes.{Bytes}
-use Rattle.basis.specs.Lists.{any, without}
+use Rattle.basis.specs.Bytes.{numberAt, Bytes}
+use Rattle.basis.specs.Lists.{any, without, countUp}
 use Rattle.basis.specs.Answers.{firstRefusal, Outcome, settled}
 use Rattle.basis.proofs.Answers.{each-passes, passed-append, passed-if}
 use Rattle.basis.proofs.Counting.{any-some, getD-either}
 use Rattle.meaning.specs.Report.{Entry, reportYear, entriesOf}
-use Rattle.meaning.specs.Calls.{written, formTest, yearTest, sharedTest, countTest, absentTest, calculated, combined, removed, text, bothEntries, numbered, calculationTests, calculatedReport, combinationTests, combinedReport, removalTests, removedReport}
-use Rattle.meaning.specs.Programs.{front, said, textOutput, reportRoom, output}
+use Rattle.meaning.specs.Text.{textLine}
+use Rattle.meaning.specs.Calls.{written, formTest, yearTest, sharedTest, countTest, absentTest, calculated, combined, removed, text, amounts, bothEntries, numbered, calculationTests, calculatedReport, combinationTests, combinedReport, removalTests, removedReport}
+use Rattle.meaning.specs.Programs.{front, said, textOutput, reportRoom, output, amountLines, amountsOutput}
 use Rattle.meaning.proofs.Laws.{entries-of-both}
 use Rattle.meaning.proofs.Programs.{said-made, said-refused}
-use Rattle.demands.specs.Fields.{sourcesIn}
+use Rattle.demands.specs.Fields.{sourcesIn, cardsIn}
 use Rattle.demands.specs.Valid.{entryNumber, noEntry, Reportable}
-use Rattle.demands.specs.Text.{IsText, printed, RefusalLine}
-use Rattle.demands.specs.Exactly.{Row, FirstOf}
-use Rattle.demands.specs.Refusals.{NoReport, roomRow, sourceRows, calculationRows, combinationRows, removalRows, textRows}
-use Rattle.demands.specs.Demand2.{ReportOfBoth, ReportWithout}
-use Rattle.demands.specs.Calls.{Leaves, Calculates, Combines, Removes, SaysRegister, SaysReport, Calls}
+use Rattle.demands.specs.Text.{Lines, IsText, printed, RefusalLine}
+use Rattle.demands.specs.Exactly.{Row, at, FirstOf}
+use Rattle.demands.specs.Refusals.{NoReport, roomRow, sourceRows, calculationRows, combinationRows, removalRows, textRows, cardRows, amountRows}
+use Rattle.demands.specs.Demand2.{ReportOfBoth, ReportWithout, AmountsOf}
+use Rattle.demands.specs.Calls.{Leaves, Calculates, Combines, Removes, SaysRegister, SaysReport, SaysAmounts, Calls}
 use Rattle.demands.proofs.Order.{ascending-distinct}
 use Rattle.demands.proofs.Exactly.{first-decides, first-number, writes}
 use Rattle.demands.proofs.Holds.{is-report}
-use Rattle.demands.proofs.ReportTests.{formed-report, passed-form, made-of}
+use Rattle.demands.proofs.ReportTests.{formed-report, passed-form, made-of, nowhere-at}
 use Rattle.demands.proofs.ReportCalls.{both-reportable, both-length, combination-decides, numbered-9-12, without-make, rest-length, removal-decides, numbered-9-13, check}
 use Rattle.demands.proofs.Removal.{without-perm}
 use Rattle.demands.proofs.Calculated.{calculationNumbers, sources-passed, sources-decide, calculation-decides, calculation-numbered, accepting}
 use Rattle.demands.proofs.Masses.{report-of}
-use Rattle.demands.proofs.Texts.{text-written, lines-once, printing, refusal-line}
+use Rattle.demands.proofs.Cards.{amounts-numbered, working, numbers-read}
+use Rattle.demands.proofs.Texts.{text-written, lines-written, lines-once, printing, refusal-line}
 use Rattle.demands.proofs.Longest.{longest}
 use Rattle.demands.proofs.Names.{finds, finds-of-two}
 
@@ -170,6 +172,40 @@ module _ (register : List ℕ) (h : Bytes register) where
             (m .bytes, m .made, subst (IsText (m .bytes)) (sym said-text) t);
       }
 
+-- the decimals of amounts
+amount-lines : (cards bytes : List ℕ) (x : AmountsOf cards bytes) → Lines (map (λ n. n ∷ []) (x .amounts)) (amountLines bytes)
+unfolding amountLines
+amount-lines cards bytes x =
+    let line : ℕ → List ℕ = λ n. textLine (n ∷ []) in
+    let many : length bytes / 8 ≡ cardsIn cards = omega (arith, x .size) in
+    let read = numbers-read cards bytes x (λ i. numberAt 8 bytes (8 * i)) (λ i. refl) in
+    let lines = map (λ n. n ∷ []) (x .amounts) in
+    let same = map-map textLine (λ n. n ∷ []) (x .amounts) ∙ ap (map line) (sym read) ∙ map-map line (λ i. numberAt 8 bytes (8 * i)) (countUp 0 (cardsIn cards)) in
+    rw (many, ← same) (lines-written lines)
+
+say-amounts : (cards room : List ℕ) → 8192 ≤ length room → SaysAmounts cards (amountsOutput cards room)
+unfolding amountsOutput
+say-amounts cards room l =
+    let o = amounts cards room in
+    let w = working cards room in
+    record {
+      refused = λ n p r.
+          let f = first-append (cardRows cards) (at 8 (8 * cardsIn cards) (length room < 8 * cardsIn cards) ∷ []) n p r in
+          let z = first-number (8 ∷ 14 ∷ 15 ∷ []) (amountRows cards (length room)) (amounts-numbered cards room) n p f in
+          refused-line (o .answer) (amountLines (front o)) n p z (w .exactly .refused n p z .1 f);
+      shown = λ f.
+          let z = w .exactly .accepted .1 (none f) in
+          let m = w .leaves z in
+          (m .made .amounts, m .made .consumed, rw (said-made (o .answer) (amountLines (front o)) z, front-made m) (amount-lines cards (m .bytes) (m .made)));
+    }
+  where
+    none : ((n p : ℕ) → FirstOf (cardRows cards) n p → ⊥) → (n p : ℕ) → FirstOf (amountRows cards (length room)) n p → ⊥
+    none f n p (inl r) = f n p (inl r)
+    none f n p (inr (x, inl r)) = f n p (inr (x, inl r))
+    none f n p (inr (x, inr (y, inl r))) = f n p (inr (x, inr (y, inl r)))
+    none f n p (inr (x, inr (y, inr (z, inl r)))) = nowhere-at x (inr (omega (arith, r .2, l)))
+    none f n p (inr (x, inr (y, inr (z, inr r)))) = r .1
+
 pub calls : Calls
 calls =
     record {
@@ -178,8 +214,10 @@ calls =
       removal = λ report result number h. removal report number h result;
       check = check;
       printing = λ report buffer h. printing report h buffer;
+      working = working;
       name = finds;
       nameOfTwo = finds-of-two;
       program = λ register room h l. program register h room l;
       show = show;
+      sayAmounts = say-amounts;
     }

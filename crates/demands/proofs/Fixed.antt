@@ -1,6 +1,6 @@
 -- What is said of a call is said of one outcome alone. Assumes nothing.
 use mathlib.Core.Bool.{Bool, true, false, cond}
-use mathlib.Core.List.{List, [], _∷_, _++_, Perm, List·isSet, List·Permᴰ·trans, List·Permᴰ, Permᴰ·symm}
+use mathlib.Core.List.{List, [], _∷_, _++_, map, Perm, List·isSet, List·Permᴰ·trans, List·Permᴰ, Permᴰ·symm}
 use mathlib.Core.Logic.{_⊎_, inl, inr, ∥∥₁-elim}
 use mathlib.Core.Path.{_≡_, refl, sym, ap, ap₂, subst, _∙_}
 use Prim.Native.Nat.{ℕ, _+_, _^_, _<_}
@@ -24,16 +24,17 @@ use Rattle.meaning.specs.declared.Found.{Found}
 use Rattle.meaning.specs.Register.{Source}
 use Rattle.meaning.specs.Report.{Entry, reportBytes, reportYear}
 use Rattle.meaning.specs.Calls.{formTest, numbered, calculationTests}
+use Rattle.meaning.specs.Cards.{cardTests}
 use Rattle.meaning.proofs.Sources.{noSource}
 use Rattle.demands.specs.Table.{CO2, CH4, N2O, FitAll, Nearest}
 use Rattle.demands.specs.Fields.{yearIn}
 use Rattle.demands.specs.Valid.{massOf, entryNumber, IsReport}
-use Rattle.demands.specs.Text.{IsText, RefusalLine, AcceptedLine, SaysAnswer}
+use Rattle.demands.specs.Text.{Lines, IsText, RefusalLine, AcceptedLine, SaysAnswer}
 use Rattle.demands.specs.Exactly.{Row, at, FirstOf, Exactly}
-use Rattle.demands.specs.Refusals.{NoReport, sourceRows, checkRows}
+use Rattle.demands.specs.Refusals.{NoReport, sourceRows, checkRows, cardRows}
 use Rattle.demands.specs.Demand1.{FromTable}
 use Rattle.demands.specs.Demand2.{Defined, DefinedAll, States, Stated, ReportOf, ReportOfBoth, ReportWithout, Refused, Numbered, Absent, IsName, partOf}
-use Rattle.demands.specs.Calls.{Writes, Checks, Finds, FindsOfTwo, IsPartOf, HandsBack, HandsBackEither, SaysRegister, SaysReport}
+use Rattle.demands.specs.Calls.{Writes, Checks, Finds, FindsOfTwo, IsPartOf, HandsBack, HandsBackEither, SaysRegister, SaysReport, SaysAmounts}
 use Rattle.demands.specs.Fixed.{Once, Fixed}
 use Rattle.demands.proofs.Figures.{three-masses}
 use Rattle.demands.proofs.Order.{sorted-perm, distinct-perm, ascending-distinct, ascending-sorted, ascending-once}
@@ -44,7 +45,8 @@ use Rattle.demands.proofs.ReportCalls.{without-absent}
 use Rattle.demands.proofs.Calculated.{sources-decide}
 use Rattle.demands.proofs.Tabled.{tabled}
 use Rattle.demands.proofs.Sums.{rounds}
-use Rattle.demands.proofs.Texts.{line-once, text-once}
+use Rattle.demands.proofs.Cards.{card-tests-decide, consumed-once, amounts-once}
+use Rattle.demands.proofs.Texts.{line-once, lines-once, text-once}
 use Rattle.demands.proofs.Names.{Case, here, nowhere, bad, case, refused, not-refused}
 
 -- an answer: a refusal by the row that refuses so, acceptance by its length
@@ -311,6 +313,21 @@ says-register-once register h t u x y = by (firstRefusal (calculationTests regis
         let b = report-of-once register (v .0) (w .0) (v .1) (w .1) in
         text-once (w .0) t u (subst (λ (r : List ℕ). IsText r t) b (v .2)) (w .2)
 
+says-amounts-once : (cards : List ℕ) → Once (SaysAmounts cards)
+says-amounts-once cards t u x y = by (firstRefusal (cardTests cards)) refl
+  where
+    decides : Decides (firstRefusal (cardTests cards)) (FirstOf (cardRows cards))
+    decides = first-decides (cardTests cards) (cardRows cards) (card-tests-decide cards)
+
+    by : (v : Verdict) → firstRefusal (cardTests cards) ≡ v → t ≡ u
+    by (Refuses n p) e = let r = decides n p .0 e in refusal-once n p t u (x .refused n p r) (y .refused n p r)
+    by Passes e =
+        let none = passes-nowhere (firstRefusal (cardTests cards)) (FirstOf (cardRows cards)) decides e in
+        let v = x .shown none in
+        let w = y .shown none in
+        let lines : List ℕ → List (List ℕ) = map (λ n. n ∷ []) in
+        lines-once (lines (w .0)) t u (subst (λ (ns : List ℕ). Lines (lines ns) t) (consumed-once cards (v .0) (w .0) (v .1) (w .1)) (v .2)) (w .2)
+
 pub fixed : Fixed
 fixed =
     record {
@@ -319,12 +336,14 @@ fixed =
       removal = λ report result number. writes-once (omega arith) (without-once report number);
       check = check-once;
       printing = λ report buffer. writes-once (omega arith) (text-once report);
+      working = λ cards buffer. writes-once (omega arith) (amounts-once cards);
       name = name-once;
       nameOfTwo = name-of-two-once;
       part = part-once;
       partOfEither = part-of-either-once;
       program = says-register-once;
       show = says-report-once;
+      sayAmounts = says-amounts-once;
       answer = says-answer-once;
       coincide = λ o a a′ bs bs′ g g′. coincide g g′;
       coincideParts = λ A bytes base start offset size held held′ place place′ s s′. coincide-part s s′;

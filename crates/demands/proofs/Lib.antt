@@ -28,6 +28,7 @@ pub mod Dealing
 pub mod EveryDealing
 pub mod Removal
 pub mod SourceAgain
+pub mod Cards
 pub mod Texts
 pub mod Longest
 pub mod Masses

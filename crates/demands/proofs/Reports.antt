@@ -30,11 +30,11 @@ equivalent-within e v = rw (equivalent-is e (v .gases)) (v .within)
 figure-within : (k : ℕ) (e : Entry) → Entered e → figure k e ≤ limit
 figure-within k e v = le-trans (figure-bounded k e (omega (arith, v .gases))) (equivalent-within e v)
 
-abbrev eights : ℕ → List ℕ
+abbrev pub eights : ℕ → List ℕ
 eights n = replicate n 8
 
 -- the figures fit eight bytes each, and so do the totals
-fits-eights : (n : ℕ) (ns : List ℕ) → length ns ≡ n → ((i : ℕ) → i < n → getD ns i 0 < 256 ^ 8) → Fits (eights n) ns
+pub fits-eights : (n : ℕ) (ns : List ℕ) → length ns ≡ n → ((i : ℕ) → i < n → getD ns i 0 < 256 ^ 8) → Fits (eights n) ns
 fits-eights zero [] e h = tt
 fits-eights zero (m ∷ ns) e h = absurd (omega arith)
 fits-eights (suc n) [] e h = absurd (omega arith)
@@ -52,7 +52,7 @@ totals-fit : (es : List Entry) → Each Entered es → length es ≤ mostSources
 totals-fit es v n = fits-eights figureCount (totals es) (length-totals es) (λ i l. total-fits es v n i l)
 
 -- numbers of eight bytes behind what stands before them
-eights-at : (before ns rest : List ℕ) (n c : ℕ) → length before ≡ n → Fits (eights c) ns → (k : ℕ) → k < c
+pub eights-at : (before ns rest : List ℕ) (n c : ℕ) → length before ≡ n → Fits (eights c) ns → (k : ℕ) → k < c
     → numberAt 8 (before ++ (packed (eights c) ns ++ rest)) (n + 8 * k) ≡ getD ns k 0
 eights-at before ns rest n c e f k l =
     let w : getD (eights c) k 0 ≡ 8 = getD-replicate c k 8 0 l in

@@ -15,7 +15,7 @@ use Rattle.basis.proofs.Bools.{or-false}
 use Rattle.meaning.specs.Register.{Source, yearOf, sourceCount, registerTests, encode}
 use Rattle.meaning.specs.Report.{reportBytes, reportLength}
 use Rattle.meaning.specs.Calls.{combined}
-use Rattle.meaning.specs.Examples.{boiler}
+use Rattle.meaning.specs.Examples.{boiler, cards}
 use Rattle.meaning.proofs.Opened.{opened}
 use Rattle.demands.specs.Trees.{wrote}
 use Rattle.demands.specs.Demand3.{Dealt, calculation}
@@ -49,7 +49,7 @@ too-many-numbers =
     (omega arith) [])
 
 pub shown : Shown
-unfolding opened
+unfolding opened cards
 shown =
     record {
       bytes = (
@@ -83,4 +83,8 @@ shown =
       ofPlant = refl;
       ofContractor = refl;
       zero = refl;
+      stocked = refl;
+      consumed = refl;
+      burnt = refl;
+      belowZero = refl;
     }

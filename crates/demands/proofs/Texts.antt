@@ -41,7 +41,7 @@ line-only (n ∷ []) t w = w .2 ∙ ap (λ (ds : List ℕ). ds ++ (10 ∷ [])) (
 line-only (n ∷ m ∷ ns) t w =
     w .4 ∙ ap₂ (λ (ds rest : List ℕ). ds ++ (32 ∷ rest)) (decimal-only n (w .0) (w .2)) (line-only (m ∷ ns) (w .1) (w .3))
 
-lines-written : (lines : List (List ℕ)) → Lines lines (joined (map textLine lines))
+pub lines-written : (lines : List (List ℕ)) → Lines lines (joined (map textLine lines))
 unfolding joined
 lines-written [] = refl
 lines-written (ns ∷ lines) = (textLine ns, joined (map textLine lines), line-written ns, lines-written lines, refl)

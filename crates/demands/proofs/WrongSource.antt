@@ -23,10 +23,10 @@ use Rattle.demands.proofs.Among.{only, among-within}
 use Rattle.demands.proofs.Table.{single, sixfold, listed-either}
 use Rattle.demands.proofs.Figures.{lines-before, names-before}
 
-left-or : {a : Bool} → a ≡ true → (c : Bool) → a || c ≡ true
+pub left-or : {a : Bool} → a ≡ true → (c : Bool) → a || c ≡ true
 left-or e c = rw e
 
-right-or : (a : Bool) {c : Bool} → c ≡ true → a || c ≡ true
+pub right-or : (a : Bool) {c : Bool} → c ≡ true → a || c ≡ true
 right-or a e = rw e (or-true a)
 
 -- the sixteen pairs

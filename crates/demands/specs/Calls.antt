@@ -1,6 +1,6 @@
 -- What demands 1 and 2 say of each call: of its answer, and of what it leaves in the buffer lent to it. It is said of the bytes alone, whatever
 -- sources, entries and text a call may go by. Assumes nothing.
-use mathlib.Core.List.{List, [], _∷_, _++_}
+use mathlib.Core.List.{List, [], _∷_, _++_, map}
 use mathlib.Core.Logic.{_⊎_, _↔_}
 use mathlib.Core.Path.{_≡_}
 use Prim.Native.Nat.{ℕ, _+_, _≤_}
@@ -10,14 +10,14 @@ use Rattle.basis.specs.Bytes.{Bytes}
 use Rattle.basis.specs.Answers.{Outcome}
 use Rattle.meaning.specs.declared.Part.{Part}
 use Rattle.meaning.specs.declared.Found.{Found}
-use Rattle.meaning.specs.Calls.{calculated, combined, removed, checked, text, found, foundOfTwo}
-use Rattle.meaning.specs.Programs.{textOutput, output}
-use Rattle.demands.specs.Text.{IsText, RefusalLine}
+use Rattle.meaning.specs.Calls.{calculated, combined, removed, checked, text, amounts, found, foundOfTwo}
+use Rattle.meaning.specs.Programs.{textOutput, output, amountsOutput}
+use Rattle.demands.specs.Text.{Lines, IsText, RefusalLine}
 use Rattle.demands.specs.Exactly.{Row, FirstOf, Exactly}
-use Rattle.demands.specs.Refusals.{NoReport, sourceRows, calculationRows, combinationRows, removalRows, checkRows, textRows}
+use Rattle.demands.specs.Refusals.{NoReport, sourceRows, calculationRows, combinationRows, removalRows, checkRows, textRows, cardRows, amountRows}
 use Rattle.demands.specs.Trees.{Accepted}
 use Rattle.demands.specs.Demand1.{FromTable, Answers}
-use Rattle.demands.specs.Demand2.{ReportOf, ReportOfBoth, ReportWithout, Refused, Numbered, Absent, IsName, partOf}
+use Rattle.demands.specs.Demand2.{ReportOf, ReportOfBoth, ReportWithout, Consumed, AmountsOf, Refused, Numbered, Absent, IsName, partOf}
 
 -- what an accepted call leaves: "the report's length; bytes after that length stay"
 pub record Leaves (Made : List ℕ → Type 0) (buffer : List ℕ) (o : Outcome) : Type 0 where
@@ -46,6 +46,9 @@ Removes report number result = Writes (8 ∷ 9 ∷ 13 ∷ []) (removalRows repor
 
 abbrev pub Prints : List ℕ → List ℕ → Outcome → Type 0
 Prints report buffer = Writes (8 ∷ 9 ∷ []) (textRows report (length buffer)) (IsText report) buffer
+
+abbrev pub WorksOut : List ℕ → List ℕ → Outcome → Type 0
+WorksOut cards buffer = Writes (8 ∷ 14 ∷ 15 ∷ []) (amountRows cards (length buffer)) (AmountsOf cards) buffer
 
 -- the report check writes nothing, and its length is that of the report judged
 pub record Checks (report : List ℕ) (a : Answer) : Type 0 where
@@ -97,14 +100,21 @@ pub record SaysReport (report t : List ℕ) : Type 0 where
   pub refused : NoReport report → RefusalLine 9 1 t
   pub shown : (NoReport report → ⊥) → IsText report t
 
--- each call of the meaning, on every list of bytes; a program's room for a text is as large as the longest
+-- of cards: one decimal a line, or a refusal, which is 14 or 15, since the program has room for the amounts of 1,024 cards
+pub record SaysAmounts (cards t : List ℕ) : Type 0 where
+  pub refused : (n p : ℕ) → FirstOf (cardRows cards) n p → RefusalLine n p t
+  pub shown : ((n p : ℕ) → FirstOf (cardRows cards) n p → ⊥) → (ns : List ℕ) × Consumed cards ns × Lines (map (λ n. n ∷ []) ns) t
+
+-- each call of the meaning, on every list of bytes; a program's room for a text, and for amounts, is as large as the longest
 pub record Calls : Type 0 where
   pub calculation : (register report : List ℕ) → Bytes register → Calculates register report (calculated register report)
   pub combination : (one other report : List ℕ) → Bytes one → Bytes other → Combines one other report (combined one other report)
   pub removal : (report result : List ℕ) (number : ℕ) → Bytes report → Removes report number result (removed report number result)
   pub check : (report : List ℕ) → Bytes report → Checks report (checked report)
   pub printing : (report buffer : List ℕ) → Bytes report → Prints report buffer (text report buffer)
+  pub working : (cards buffer : List ℕ) → WorksOut cards buffer (amounts cards buffer)
   pub name : (register : List ℕ) (number : ℕ) → Finds register number (found register number)
   pub nameOfTwo : (plant contractor : List ℕ) (number : ℕ) → FindsOfTwo plant contractor number (foundOfTwo plant contractor number)
   pub program : (register room : List ℕ) → Bytes register → 38994 ≤ length room → SaysRegister register (output register room)
   pub show : (report room : List ℕ) → Bytes report → 38994 ≤ length room → SaysReport report (textOutput report room)
+  pub sayAmounts : (cards room : List ℕ) → 8192 ≤ length room → SaysAmounts cards (amountsOutput cards room)

@@ -7,7 +7,7 @@ use mathlib.Core.Logic.{_↔_, _≢_}
 use mathlib.Core.Path.{_≡_}
 use Prim.Native.Nat.{ℕ, _+_, _*_, _-_, _^_, _≤_, _<_}
 use lib.ListN.{length, getD, take, drop}
-use Rattle.basis.specs.Bytes.{Bytes}
+use Rattle.basis.specs.Bytes.{numberAt, Bytes}
 use Rattle.basis.specs.Lists.{sum}
 use Rattle.meaning.specs.declared.Part.{Part}
 use Rattle.meaning.specs.declared.Found.{Found}
@@ -16,7 +16,7 @@ use Rattle.meaning.specs.Register.{Source, sourcesOf, encode}
 use Rattle.meaning.specs.Report.{Entry, entryOf, reportBytes, entriesOf, wellFormed}
 use Rattle.meaning.specs.Calls.{calculated}
 use Rattle.demands.specs.Table.{CO2, CH4, N2O, adds, takes, FitAll, total, Nearest}
-use Rattle.demands.specs.Fields.{yearIn, sourcesIn, number, method, parameter, nameLength, nameAt, linesOf, reportYear, entriesIn}
+use Rattle.demands.specs.Fields.{yearIn, sourcesIn, number, method, parameter, nameLength, nameAt, linesOf, reportYear, entriesIn, cardsIn, received, dispatched, opening, closing}
 use Rattle.demands.specs.Valid.{massOf, equivalentOf, Entered, Reportable, IsReport, LaidRight, Encodable}
 use Rattle.demands.specs.Exactly.{FirstOf}
 use Rattle.demands.specs.Refusals.{registerRows}
@@ -91,6 +91,22 @@ pub record ReportWithout (report : List ℕ) (number : ℕ) (bytes : List ℕ) :
   pub all : Perm (gone ∷ es) whole
   pub isReport : IsReport bytes (reportYear report) es
   pub size : length bytes ≡ 56 + 40 * (entriesIn report - 1)
+
+-- Document 02: "Work out consumption by formula 1 of source document 000: received less dispatched, plus opening, less closing stock." Numbers that are
+-- the amounts of cards, one for each in card order: an amount and what goes out come to what comes in. They are "to become quantities of lines",
+-- which are at most 10^10.
+pub record Consumed (cards ns : List ℕ) : Type 0 where
+  pub oneEach : length ns ≡ cardsIn cards
+  pub balance : (i : ℕ) → i < cardsIn cards → getD ns i 0 + (dispatched cards i + closing cards i) ≡ received cards i + opening cards i
+  pub quantity : (i : ℕ) → i < cardsIn cards → getD ns i 0 ≤ 10 ^ 10
+
+-- "amounts written in card order, 8 bytes each"
+pub record AmountsOf (cards bytes : List ℕ) : Type 0 where
+  pub amounts : List ℕ
+  pub consumed : Consumed cards amounts
+  pub areBytes : Bytes bytes
+  pub size : length bytes ≡ 8 * cardsIn cards
+  pub each : (i : ℕ) → i < cardsIn cards → numberAt 8 bytes (8 * i) ≡ getD amounts i 0
 
 pub record Masses : Type 0 where
   -- rounding: the nearest, and the only such number

@@ -1,7 +1,8 @@
--- Where document 01 lays the fields of a register and of a report: first byte and width of each, in its own figures. Assumes nothing.
+-- Where document 01 lays the fields of a register and of a report, and document 02 those of a stock card: first byte and width of each, in their own
+-- figures. Assumes nothing.
 use mathlib.Core.List.{List, map}
-use Prim.Native.Nat.{ℕ, zero, suc, _+_, _*_}
-use lib.ListN.{getD, drop}
+use Prim.Native.Nat.{ℕ, zero, suc, _+_, _*_, _/_}
+use lib.ListN.{length, getD, drop}
 use Rattle.basis.specs.Bytes.{numberAt}
 use Rattle.basis.specs.Lists.{countUp}
 use Rattle.meaning.specs.declared.RawLine.{RawLine}
@@ -82,3 +83,19 @@ reportEntry b i = drop (56 + 40 * i) b
 
 abbrev pub reportNumber : List ℕ → ℕ → ℕ
 reportNumber b i = numberAt 4 (reportEntry b i) 0
+
+-- Stock cards of 32 bytes: "received less dispatched, plus opening, less closing stock. Entries are 8-byte numbers in that order", of card i
+abbrev pub cardsIn : List ℕ → ℕ
+cardsIn b = length b / 32
+
+abbrev pub received : List ℕ → ℕ → ℕ
+received b i = numberAt 8 b (32 * i)
+
+abbrev pub dispatched : List ℕ → ℕ → ℕ
+dispatched b i = numberAt 8 b (32 * i + 8)
+
+abbrev pub opening : List ℕ → ℕ → ℕ
+opening b i = numberAt 8 b (32 * i + 16)
+
+abbrev pub closing : List ℕ → ℕ → ℕ
+closing b i = numberAt 8 b (32 * i + 24)

@@ -7,7 +7,7 @@ use Rattle.basis.specs.declared.Answer.{Answer}
 use Rattle.basis.specs.Bytes.{Bytes}
 use Rattle.basis.specs.Answers.{Outcome, Gives, Shows}
 use Rattle.demands.specs.Text.{SaysAnswer}
-use Rattle.demands.specs.Calls.{Calculates, Combines, Removes, Checks, Prints, Finds, FindsOfTwo, HandsBack, HandsBackEither, SaysRegister, SaysReport}
+use Rattle.demands.specs.Calls.{Calculates, Combines, Removes, Checks, Prints, WorksOut, Finds, FindsOfTwo, HandsBack, HandsBackEither, SaysRegister, SaysReport, SaysAmounts}
 
 -- no two of these
 abbrev pub Once : {A : Type 0} → (A → Type 0) → Type 0
@@ -19,6 +19,7 @@ pub record Fixed : Type 1 where
   pub removal : (report result : List ℕ) (number : ℕ) → Once (Removes report number result)
   pub check : (report : List ℕ) → Once (Checks report)
   pub printing : (report buffer : List ℕ) → Once (Prints report buffer)
+  pub working : (cards buffer : List ℕ) → Once (WorksOut cards buffer)
   pub name : (register : List ℕ) (number : ℕ) → Once (Finds register number)
   pub nameOfTwo : (plant contractor : List ℕ) (number : ℕ) → Once (FindsOfTwo plant contractor number)
   -- bytes and place of what a lookup hands back
@@ -28,6 +29,7 @@ pub record Fixed : Type 1 where
   -- what the programs say
   pub program : (register : List ℕ) → Bytes register → Once (SaysRegister register)
   pub show : (report : List ℕ) → Bytes report → Once (SaysReport report)
+  pub sayAmounts : (cards : List ℕ) → Once (SaysAmounts cards)
   pub answer : (a : Answer) → Once (SaysAnswer a)
   -- what a promise of an outcome, and one of a part, permits
   pub coincide : (o : Outcome) (a a′ : Answer) (bs bs′ : List ℕ) → Gives o a bs → Gives o a′ bs′ → (a ≡ a′) × (bs ≡ bs′)

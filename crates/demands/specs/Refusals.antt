@@ -1,14 +1,15 @@
--- "Each refusal is given exactly when the table says." The rows of document 01's table, call by call, in the order of its tests. Assumes nothing.
+-- "Each refusal is given exactly when the table says." The rows of document 01's table, and those that document 02 adds, call by call, in the order
+-- of the tests. Assumes nothing.
 use mathlib.Core.List.{List, [], _∷_, _++_}
 use mathlib.Core.Logic.{_⊎_, _≢_}
 use mathlib.Core.Path.{_≡_}
-use Prim.Native.Nat.{ℕ, _+_, _*_, _-_, _≤_, _<_, _^_}
+use Prim.Native.Nat.{ℕ, _+_, _*_, _-_, _%_, _≤_, _<_, _^_}
 use lib.ListN.{length, take}
 use Rattle.basis.specs.Bytes.{numberAt}
 use Rattle.meaning.specs.declared.RawLine.{RawLine}
 use Rattle.meaning.specs.Report.{Entry}
 use Rattle.demands.specs.Table.{Among, 1-to-6, CO2, CH4, N2O, adds, takes, NoRow, FitAll, total, Nearest}
-use Rattle.demands.specs.Fields.{yearIn, sourcesIn, linesIn, nameBytesIn, number, method, parameter, lineCount, firstLine, nameLength, nameOffset, linesBefore, namesBefore, nameByte, lineAt, linesOf, reportYear, entriesIn, reportNumber}
+use Rattle.demands.specs.Fields.{yearIn, sourcesIn, linesIn, nameBytesIn, number, method, parameter, lineCount, firstLine, nameLength, nameOffset, linesBefore, namesBefore, nameByte, lineAt, linesOf, reportYear, entriesIn, reportNumber, cardsIn, received, dispatched, opening, closing}
 use Rattle.demands.specs.Valid.{IsReport}
 use Rattle.demands.specs.Text.{IsText}
 use Rattle.demands.specs.Exactly.{Row, at, atSmallest, withNumber}
@@ -136,3 +137,28 @@ TextLength report n = (t : List ℕ) × IsText report t × (length t ≡ n)
 
 abbrev pub textRows : List ℕ → ℕ → List Row
 textRows report room = at 9 1 (NoReport report) ∷ (λ n p. (n ≡ 8) × TextLength report p × (room < p)) ∷ []
+
+-- 14: "a broken length or too many cards": not whole cards of 32 bytes, or more than 1,024
+abbrev pub NotCards : List ℕ → Type 0
+NotCards b = (length b % 32 ≢ 0) ⊎ (32 * 1024 < length b)
+
+-- 14: "an entry out of range", above 10^10, of card i
+abbrev pub StockAbove : List ℕ → ℕ → Type 0
+StockAbove b i = (10 ^ 10 < received b i) ⊎ (10 ^ 10 < dispatched b i) ⊎ (10 ^ 10 < opening b i) ⊎ (10 ^ 10 < closing b i)
+
+-- 15: "an amount below zero or above 10^10", of card i: less comes in than goes out, or more than 10^10 more does
+abbrev pub NoAmount : List ℕ → ℕ → Type 0
+NoAmount b i =
+    (received b i + opening b i < dispatched b i + closing b i) ⊎ (dispatched b i + closing b i + 10 ^ 10 < received b i + opening b i)
+
+-- "14 for a broken length or too many cards, place 0; then 14 for an entry out of range, then 15 for an amount below zero or above 10^10, each at the
+-- first such card; then 8": eight bytes a card
+abbrev pub cardRows : List ℕ → List Row
+cardRows b =
+    at 14 0 (NotCards b)
+    ∷ atSmallest (cardsIn b) (withNumber 14 (StockAbove b))
+    ∷ atSmallest (cardsIn b) (withNumber 15 (NoAmount b))
+    ∷ []
+
+abbrev pub amountRows : List ℕ → ℕ → List Row
+amountRows b room = cardRows b ++ (at 8 (8 * cardsIn b) (room < 8 * cardsIn b) ∷ [])

@@ -1,4 +1,4 @@
--- The premises of the statements, all met: two boilers of equal name and lines, and an acid plant. Assumes nothing.
+-- The premises of the statements, all met: two boilers of equal name and lines, an acid plant, and stock cards. Assumes nothing.
 use mathlib.Core.List.{List, [], _∷_, map, Perm}
 use mathlib.Core.Path.{_≡_}
 use Prim.Native.Nat.{ℕ, _+_, _*_}
@@ -7,9 +7,9 @@ use Rattle.basis.specs.Bytes.{numberAt, Bytes, ascii}
 use Rattle.basis.specs.Lists.{Each, countUp, joined}
 use Rattle.meaning.specs.Register.{Source, sourcesOf, encode}
 use Rattle.meaning.specs.Report.{Entry, reportBytes, entriesOf}
-use Rattle.meaning.specs.Calls.{combined, removed, foundOfTwo}
+use Rattle.meaning.specs.Calls.{combined, removed, amounts, foundOfTwo}
 use Rattle.meaning.specs.Starred.{line}
-use Rattle.meaning.specs.Examples.{boiler}
+use Rattle.meaning.specs.Examples.{boiler, cards, blank}
 use Rattle.demands.specs.Table.{Nearest}
 use Rattle.demands.specs.Fields.{entriesIn}
 use Rattle.demands.specs.Valid.{Reportable, Encodable}
@@ -24,6 +24,10 @@ acid = record { number = 9; method = 6; parameter = 5; name = ascii "Acid"; line
 -- a boiler that burnt nothing
 abbrev pub idle : Source
 idle = record { number = 1; method = 1; parameter = 0; name = ascii "Idle"; lines = line 1 1 3 0 0 0 ∷ [] }
+
+-- a boiler that burnt the amount of a card
+abbrev pub fed : ℕ → Source
+fed amount = record { number = 1; method = 1; parameter = 0; name = ascii "Fed"; lines = line 1 1 3 amount 800000 10000 ∷ [] }
 
 -- entries with so many numbers from one on, and no masses
 abbrev pub many : ℕ → ℕ → List Entry
@@ -90,3 +94,8 @@ pub record Shown : Type 0 where
   pub ofContractor : foundOfTwo (whole .register) (lent (boiler 3 ∷ []) .register) 3 ≡ record { which = 2; offset = 68; length = 12 }
   -- "Zero is an ordinary value for Q, A and B"
   pub zero : Accepted (calculation (lent (idle ∷ [])))
+  -- stock cards are accepted; an amount is a quantity that a line may have, and one that is below zero is none
+  pub stocked : Accepted (amounts (cards ((7000 ∷ 500 ∷ 300 ∷ 800 ∷ []) ∷ blank ∷ [])) zeros)
+  pub consumed : numberAt 8 (wrote (amounts (cards ((7000 ∷ 500 ∷ 300 ∷ 800 ∷ []) ∷ blank ∷ [])) zeros)) 0 ≡ 6000
+  pub burnt : Accepted (calculation (lent (fed 6000 ∷ [])))
+  pub belowZero : amounts (cards (blank ∷ (0 ∷ 0 ∷ 300 ∷ 800 ∷ []) ∷ [])) zeros .answer ≡ refusal 15 1

@@ -13,10 +13,10 @@ use Rattle.basis.specs.Bytes.{Bytes}
 use Rattle.basis.specs.Answers.{Outcome, Gives}
 use Rattle.meaning.specs.declared.Part.{Part}
 use Rattle.meaning.specs.declared.Found.{Found}
-use Rattle.meaning.specs.Calls.{calculated, combined, removed, checked, text, accepted, holds, found, inRegister, foundOfTwo}
+use Rattle.meaning.specs.Calls.{calculated, combined, removed, checked, text, amounts, accepted, holds, found, inRegister, foundOfTwo}
 use Rattle.meaning.specs.Parts.{IsPart, IsName, IsNameOfEither}
 use Rattle.demands.specs.Demand2.{partOf}
-use Rattle.demands.specs.Calls.{Calculates, Combines, Removes, Checks, Prints, Finds, FindsOfTwo, IsPartOf, HandsBack, HandsBackEither}
+use Rattle.demands.specs.Calls.{Calculates, Combines, Removes, Checks, Prints, WorksOut, Finds, FindsOfTwo, IsPartOf, HandsBack, HandsBackEither}
 use Rattle.demands.proofs.Kept.{kept}
 
 -- what a slice of bytes holds at an index is a byte
@@ -45,6 +45,9 @@ checks {report} b e = subst (Checks report) (sym e) (kept .calls .check report b
 pub prints : {report buffer left : List ℕ} {a : Answer} → Bytes report → Gives (text report buffer) a left
     → Prints report buffer (record { answer = a; left = left })
 prints {report} {buffer} b g = gave (Prints report buffer) g (kept .calls .printing report buffer b)
+
+pub works-out : {cards buffer left : List ℕ} {a : Answer} → Gives (amounts cards buffer) a left → WorksOut cards buffer (record { answer = a; left = left })
+works-out {cards} {buffer} g = gave (WorksOut cards buffer) g (kept .calls .working cards buffer)
 
 pub finds : {register : List ℕ} {number : ℕ} {p : Part} → p ≡ found register number → Finds register number p
 finds {register} {number} e = subst (Finds register number) (sym e) (kept .calls .name register number)

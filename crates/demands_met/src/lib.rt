@@ -1,7 +1,7 @@
 // The exported calls and the returned names once more, each with what the first two demands say of it. A promise is the meaning of its call, the
 // demands are theorems about that meaning, and here the two meet: what a lent slice holds is bytes, which is all that the theorems ask for.
 ghost use denote.Ref.{ptr};
-ghost use Rattle.demands.specs.Calls.{Calculates, Combines, Removes, Checks, Prints, Finds, FindsOfTwo, HandsBack, HandsBackEither};
+ghost use Rattle.demands.specs.Calls.{Calculates, Combines, Removes, Checks, Prints, WorksOut, Finds, FindsOfTwo, HandsBack, HandsBackEither};
 use basis::Answer;
 use meaning::Found;
 use meaning::Part;
@@ -34,6 +34,12 @@ pub fn text(report: &[u8], buffer: &mut [u8]) -> Answer
     ensures { λ r. ⌜ Prints (now (report .entry)) (now (buffer .entry)) (record { answer = r; left = now (buffer .exit) }) ⌝ }
 {
     kopristen::kopristen_text(report, buffer)
+}
+
+pub fn amounts(cards: &[u8], buffer: &mut [u8]) -> Answer
+    ensures { λ r. ⌜ WorksOut (now (cards .entry)) (now (buffer .entry)) (record { answer = r; left = now (buffer .exit) }) ⌝ }
+{
+    kopristen::kopristen_amounts(cards, buffer)
 }
 
 pub fn name(register: &[u8], number: u32) -> Part

@@ -1,7 +1,7 @@
 -- Fields read one behind another, and the loops that write and compare bytes: how each begins, goes on and ends. Assumes nothing.
 use mathlib.Core.Bool.{true, false, _&&_}
 use mathlib.Core.Path.{_≡_, refl, sym, ap, _∙_}
-use mathlib.Core.List.{List, [], _∷_, _++_, append-assoc}
+use mathlib.Core.List.{List, [], _∷_, _++_}
 use Prim.Native.Nat.{ℕ, suc, _+_, _*_, _-_, _/_, _%_, _^_, _≤_, _<_}
 use native.Mathlib.Nat.{add-assoc, add-zero, sub-zero, mul-le-mul-left}
 use native.Mathlib.Numerals.{add-one}
@@ -11,10 +11,10 @@ use borrow.Author.Tests.{eq-eqb, ne-eqb}
 use lib.Dec.{eqb}
 use lib.Pow.{pow-add}
 use lib.ListN.{length, drop, getD, set, length-append, length-set, drop-of-length-le}
-use lib.Seq.{set-split, drop-cons, drop-drop, getD-drop}
+use lib.Seq.{drop-cons, drop-drop, getD-drop}
 use Rattle.basis.specs.Bytes.{bytesOf, numberOf, numberAt, splice, startsWith, Written}
 use Rattle.basis.proofs.Rows.{numberAt-drop}
-use Rattle.basis.proofs.Bytes.{numberAt-parts, length-bytesOf, splice-none, splice-splice, length-written}
+use Rattle.basis.proofs.Bytes.{numberAt-parts, length-bytesOf, splice-none, splice-splice, length-written, written-one}
 use Rattle.fields.specs.Fields.{Field}
 
 -- a field behind a place is one of what stands from there on
@@ -52,10 +52,7 @@ pub record Writing (bs₀ : List ℕ) (at : ℕ) (ys bs : List ℕ) (p : ℕ) (r
   pub whole : splice bs p rest ≡ splice bs₀ at ys
 
 splice-cons : (bs : List ℕ) (at b : ℕ) (rest : List ℕ) → at < length bs → splice (set bs at b) (at + 1) rest ≡ splice bs at (b ∷ rest)
-unfolding splice
-splice-cons bs at b rest h =
-    let e : set bs at b ≡ splice bs at (b ∷ []) = simp (set-split, add-one, append-assoc) in
-    ap (λ (l : List ℕ). splice l (at + 1) rest) e ∙ splice-splice bs at (b ∷ []) rest (omega arith)
+splice-cons bs at b rest h = ap (λ (l : List ℕ). splice l (at + 1) rest) (written-one bs at b h .is) ∙ splice-splice bs at (b ∷ []) rest (omega arith)
 
 pub writing-none : (bs : List ℕ) (at : ℕ) (ys : List ℕ) → at + length ys ≤ length bs → Writing bs at ys bs at ys
 writing-none bs at ys h = record { fits = h; kept = refl; end = refl; whole = refl }

@@ -1,7 +1,7 @@
-// Every call of document 01, for C and Rust. Each takes any bytes, and its promise is the meaning of the call.
+// Every call of documents 01 and 02, for C and Rust. Each takes any bytes, and its promise is the meaning of the call.
 ghost use mathlib.Core.Path.{_≡_};
 ghost use Rattle.basis.specs.Answers.{Gives};
-ghost use Rattle.meaning.specs.Calls.{calculated, combined, removed, checked, text, found, foundOfTwo};
+ghost use Rattle.meaning.specs.Calls.{calculated, combined, removed, checked, text, amounts, found, foundOfTwo};
 use basis::Answer;
 use meaning::Found;
 use meaning::Part;
@@ -44,6 +44,14 @@ pub extern "C" fn kopristen_text(report: &[u8], buffer: &mut [u8]) -> Answer
     ensures { λ r. ⌜ Gives (text (now (report .entry)) (now (buffer .entry))) r (now (buffer .exit)) ⌝ }
 {
     report_text::text(report, buffer)
+}
+
+// "received less dispatched, plus opening, less closing stock", of stock cards: 14, 15, then 8.
+#[no_mangle]
+pub extern "C" fn kopristen_amounts(cards: &[u8], buffer: &mut [u8]) -> Answer
+    ensures { λ r. ⌜ Gives (amounts (now (cards .entry)) (now (buffer .entry))) r (now (buffer .exit)) ⌝ }
+{
+    input_stock_cards::amounts(cards, buffer)
 }
 
 // "The name found for a number is the part of the lent register where it stands"; 0 and 0 where there is none.

@@ -1,7 +1,7 @@
 -- The starred sums, and the cases beside them, computed. Assumes nothing.
 use mathlib.Core.Path.{refl}
 use Rattle.meaning.specs.Starred.{Starred, resultOf, calculates}
-use Rattle.meaning.specs.Examples.{Examples, twins, made, reportOfSources, damaged, named, combining, removing}
+use Rattle.meaning.specs.Examples.{Examples, twins, made, reportOfSources, damaged, named, combining, removing, cards, working}
 use Rattle.meaning.specs.Kinds.{Kinds}
 use Rattle.meaning.specs.ByHand.{ByHand}
 use Rattle.meaning.proofs.Opened.{opened}
@@ -11,7 +11,7 @@ unfolding opened resultOf calculates
 starred = record { each = refl }
 
 pub examples : Examples
-unfolding opened resultOf calculates twins made reportOfSources damaged named combining removing
+unfolding opened resultOf calculates twins made reportOfSources damaged named combining removing cards working
 examples =
     record {
       within = refl;
@@ -22,6 +22,11 @@ examples =
       acceptance = refl;
       program = refl;
       programRefuses = refl;
+      workedOut = refl;
+      noCards = refl;
+      amountsKept = refl;
+      amountsSaid = refl;
+      amountsRefused = refl;
       refused = refl;
       together = refl;
       apart = refl;
@@ -37,4 +42,4 @@ kinds = record { each = refl }
 
 pub byHand : ByHand
 unfolding opened
-byHand = record { sources = refl; register = refl; report = refl; entries = refl; written = refl; text = refl }
+byHand = record { sources = refl; register = refl; report = refl; entries = refl; written = refl; text = refl; amounts = refl }

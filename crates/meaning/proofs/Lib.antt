@@ -11,3 +11,4 @@ pub mod Lengths
 pub mod Totals
 pub mod Decimals
 pub mod Programs
+pub mod Cards

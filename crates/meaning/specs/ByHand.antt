@@ -1,4 +1,5 @@
--- A register and its report, byte by byte, with other bytes in every field: no two fields may change places. Assumes nothing.
+-- A register and its report, and stock cards and their amounts, byte by byte, with other bytes in every field: no two fields may change places.
+-- Assumes nothing.
 use mathlib.Core.List.{List, [], _∷_, _++_}
 use mathlib.Core.Path.{_≡_}
 use Prim.Native.Nat.{ℕ}
@@ -6,7 +7,7 @@ use lib.ListN.{replicate}
 use Rattle.basis.specs.Bytes.{ascii}
 use Rattle.meaning.specs.Register.{Source, sourcesOf, encode}
 use Rattle.meaning.specs.Report.{Entry, reportBytes, entriesOf}
-use Rattle.meaning.specs.Calls.{calculated, text}
+use Rattle.meaning.specs.Calls.{calculated, text, amounts}
 use Rattle.meaning.specs.Starred.{line}
 
 abbrev pub registerByHand : List ℕ
@@ -71,6 +72,24 @@ entriesByHand =
     ∷ record { number = 134678021; method = 2; masses = 457242597849799 ∷ 10916527251 ∷ 0 ∷ [] }
     ∷ []
 
+abbrev pub cardsByHand : List ℕ
+cardsByHand =
+    -- received 8691058697, dispatched 4362273281, opening 134678021, closing 218893066
+    9 ∷ 8 ∷ 7 ∷ 6 ∷ 2 ∷ 0 ∷ 0 ∷ 0
+    ∷ 1 ∷ 2 ∷ 3 ∷ 4 ∷ 1 ∷ 0 ∷ 0 ∷ 0
+    ∷ 5 ∷ 6 ∷ 7 ∷ 8 ∷ 0 ∷ 0 ∷ 0 ∷ 0
+    ∷ 10 ∷ 11 ∷ 12 ∷ 13 ∷ 0 ∷ 0 ∷ 0 ∷ 0
+    -- received 258, dispatched 772, opening 1543, closing 515
+    ∷ 2 ∷ 1 ∷ 0 ∷ 0 ∷ 0 ∷ 0 ∷ 0 ∷ 0
+    ∷ 4 ∷ 3 ∷ 0 ∷ 0 ∷ 0 ∷ 0 ∷ 0 ∷ 0
+    ∷ 7 ∷ 6 ∷ 0 ∷ 0 ∷ 0 ∷ 0 ∷ 0 ∷ 0
+    ∷ 3 ∷ 2 ∷ 0 ∷ 0 ∷ 0 ∷ 0 ∷ 0 ∷ 0
+    ∷ []
+
+-- 4244570371 and 514
+abbrev pub amountsByHand : List ℕ
+amountsByHand = 3 ∷ 1 ∷ 255 ∷ 252 ∷ 0 ∷ 0 ∷ 0 ∷ 0 ∷ 2 ∷ 2 ∷ 0 ∷ 0 ∷ 0 ∷ 0 ∷ 0 ∷ 0 ∷ []
+
 pub record ByHand : Type 0 where
   pub sources : sourcesOf registerByHand ≡ sourcesByHand
   pub register : encode 2023 sourcesByHand ≡ registerByHand
@@ -80,3 +99,4 @@ pub record ByHand : Type 0 where
   pub written : reportBytes 2023 entriesByHand ≡ reportByHand
   pub text : text reportByHand (replicate 163 1) .left
       ≡ ascii "2023 2 457242597849799 10916527251 40777519257 469667211769660\n67305985 6 0 0 40777519257 12151700738586\n134678021 2 457242597849799 10916527251 0 457515511031074\n"
+  pub amounts : amounts cardsByHand (replicate 16 1 ++ (2 ∷ 3 ∷ [])) ≡ record { answer = record { number = 0; place = 0; length = 16 }; left = amountsByHand ++ (2 ∷ 3 ∷ []) }

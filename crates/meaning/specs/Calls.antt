@@ -1,4 +1,4 @@
--- Document 01, "Refusal numbers": each call as its tests in order, and what it leaves where it accepts. Assumes nothing.
+-- Documents 01, "Refusal numbers", and 02: each call as its tests in order, and what it leaves where it accepts. Assumes nothing.
 use mathlib.Core.Bool.{Bool, cond, not, _&&_}
 use mathlib.Core.List.{List, [], _∷_, _++_, map}
 use Prim.Native.Nat.{ℕ, _+_}
@@ -18,6 +18,7 @@ use Rattle.meaning.specs.Masses.{belowZero, masses, equivalent, limit}
 use Rattle.meaning.specs.Register.{Source, yearOf, sourceCount, mostSources, sourcesOf, registerTests, decodedLines, sourceEntry, numberIn, nameLengthIn, namePlace}
 use Rattle.meaning.specs.Report.{Entry, entryOf, inOrder, reportBytes, reportYear, entriesOf, entryCount, wellFormed}
 use Rattle.meaning.specs.Text.{reportText}
+use Rattle.meaning.specs.Cards.{cardTests, amountBytes}
 
 -- "8 | report buffer too short | length needed"
 abbrev pub roomTest : List ℕ → List ℕ → Verdict
@@ -128,6 +129,10 @@ checked report = answer (formTest report 1) (length report)
 -- the text of a report: 9 with place 1, then 8
 unfoldable pub text : List ℕ → List ℕ → Outcome
 text report buffer = written (formTest report 1 ∷ []) (reportText (reportYear report) (entriesOf report)) buffer
+
+-- document 02: "cards are worked out in a call of their own": 14 by length, 14 over all cards, 15 over all cards, "then 8"
+unfoldable pub amounts : List ℕ → List ℕ → Outcome
+amounts cards buffer = written (cardTests cards) (amountBytes cards) buffer
 
 -- Names. Whether the tests 1 to 4 accept a register, and at which entry a number stands
 unfoldable pub accepted : List ℕ → Bool

@@ -1,15 +1,17 @@
--- Cases beside the starred sums: document 01's own text of a report, and each number of its table with its place. Assumes nothing.
+-- Cases beside the starred sums: document 01's own text of a report, each number of the table of refusals with its place, and the ends of what
+-- stock cards may be. Assumes nothing.
 use mathlib.Core.List.{List, [], _∷_, map}
 use mathlib.Core.Path.{_≡_}
 use Prim.Native.Nat.{ℕ}
 use lib.ListN.{replicate, take}
 use Rattle.basis.specs.declared.Answer.{Answer}
-use Rattle.basis.specs.Bytes.{bytesOf, ascii, splice}
+use Rattle.basis.specs.Bytes.{bytesOf, packed, ascii, splice}
+use Rattle.basis.specs.Lists.{joined}
 use Rattle.basis.specs.Answers.{Outcome}
 use Rattle.meaning.specs.Register.{Source, encode}
 use Rattle.meaning.specs.Text.{refusedLine, acceptedLine}
-use Rattle.meaning.specs.Calls.{calculated, combined, removed, checked, text, found, foundOfTwo}
-use Rattle.meaning.specs.Programs.{output}
+use Rattle.meaning.specs.Calls.{calculated, combined, removed, checked, text, amounts, found, foundOfTwo}
+use Rattle.meaning.specs.Programs.{output, amountsOutput}
 use Rattle.meaning.specs.Starred.{gives, calculates, line, case}
 
 -- "sources 8 and 7 in that order, equal names, each with the first case's line"
@@ -53,6 +55,27 @@ combining one other room = combined one other (replicate room 0) .answer
 
 unfoldable pub removing : ℕ → ℕ → Answer
 removing number room = removed (reportOfSources (boiler 8 ∷ boiler 7 ∷ [])) number (replicate room 0) .answer
+
+-- stock cards with these entries each: received, dispatched, opening, closing
+unfoldable pub cards : List (List ℕ) → List ℕ
+cards entries = joined (map (packed (8 ∷ 8 ∷ 8 ∷ 8 ∷ [])) entries)
+
+unfoldable pub working : List ℕ → ℕ → Answer
+working bytes room = amounts bytes (replicate room 0) .answer
+
+-- a card with nothing on it
+abbrev pub blank : List ℕ
+blank = 0 ∷ 0 ∷ 0 ∷ 0 ∷ []
+
+-- amounts of nothing, where less was received than dispatched, and of 10^10, three times; no entry is above 10^10
+abbrev pub ends : List (List ℕ)
+ends =
+    blank
+    ∷ (2 ∷ 9 ∷ 8 ∷ 1 ∷ [])
+    ∷ (10000000000 ∷ 0 ∷ 0 ∷ 0 ∷ [])
+    ∷ (10000000000 ∷ 10000000000 ∷ 10000000000 ∷ 0 ∷ [])
+    ∷ (10000000000 ∷ 0 ∷ 10000000000 ∷ 10000000000 ∷ [])
+    ∷ []
 
 abbrev pub rows : List Row
 rows =
@@ -109,6 +132,23 @@ rows =
     -- a number that is absent; a buffer that is a byte short
     ∷ row (removing 9 136) 13 9
     ∷ row (removing 7 95) 8 96
+    -- cards: a byte too few, a byte too many, a card too many
+    ∷ row (working (replicate 31 0) 8) 14 0
+    ∷ row (working (replicate 33 0) 8) 14 0
+    ∷ row (working (replicate 32800 0) 0) 14 0
+    -- each entry one above 10^10
+    ∷ row (working (cards (blank ∷ (10000000001 ∷ 1 ∷ 0 ∷ 0 ∷ []) ∷ [])) 16) 14 1
+    ∷ row (working (cards (blank ∷ (1 ∷ 10000000001 ∷ 10000000000 ∷ 0 ∷ []) ∷ [])) 16) 14 1
+    ∷ row (working (cards (blank ∷ (0 ∷ 1 ∷ 10000000001 ∷ 0 ∷ []) ∷ [])) 16) 14 1
+    ∷ row (working (cards (blank ∷ (10000000000 ∷ 0 ∷ 1 ∷ 10000000001 ∷ []) ∷ [])) 16) 14 1
+    -- an amount below zero by one, one above 10^10; the first of two; an entry of the last card before an amount of the first
+    ∷ row (working (cards (blank ∷ (2 ∷ 9 ∷ 8 ∷ 2 ∷ []) ∷ [])) 16) 15 1
+    ∷ row (working (cards ((10000000000 ∷ 0 ∷ 1 ∷ 0 ∷ []) ∷ [])) 8) 15 0
+    ∷ row (working (cards (blank ∷ (0 ∷ 1 ∷ 0 ∷ 0 ∷ []) ∷ (0 ∷ 0 ∷ 0 ∷ 1 ∷ []) ∷ [])) 24) 15 1
+    ∷ row (working (cards ((0 ∷ 1 ∷ 0 ∷ 0 ∷ []) ∷ blank ∷ (0 ∷ 0 ∷ 0 ∷ 10000000001 ∷ []) ∷ [])) 24) 14 2
+    -- what cards are refused for comes before the room, which is a byte short
+    ∷ row (working (cards ((0 ∷ 1 ∷ 0 ∷ 0 ∷ []) ∷ [])) 7) 15 0
+    ∷ row (working (cards (blank ∷ blank ∷ [])) 15) 8 16
     ∷ []
 
 -- what is still allowed: the shortest and the longest name, name bytes at the ends of what they may be, the first and the last year
@@ -139,6 +179,14 @@ pub record Examples : Type 0 where
   pub program : output twins (replicate 100 0)
       ≡ ascii "2023 2 5862400000 0 0 5862400000\n7 1 2931200000 0 0 2931200000\n8 1 2931200000 0 0 2931200000\n"
   pub programRefuses : output (splice twins 48 (8 ∷ [])) [] ≡ ascii "refused 4 1\n"
+  -- the amounts of cards at the ends of what they may be; no cards
+  pub workedOut : made 40 (amounts (cards ends)) ≡ joined (replicate 16 0 ∷ replicate 3 (0 ∷ 228 ∷ 11 ∷ 84 ∷ 2 ∷ 0 ∷ 0 ∷ 0 ∷ []))
+  pub noCards : amounts [] (1 ∷ []) ≡ record { answer = record { number = 0; place = 0; length = 0 }; left = 1 ∷ [] }
+  -- a card that is refused behind one that is not leaves the buffer as it was
+  pub amountsKept : amounts (cards ((5 ∷ 0 ∷ 0 ∷ 0 ∷ []) ∷ (0 ∷ 0 ∷ 0 ∷ 1 ∷ []) ∷ [])) (replicate 16 7) .left ≡ replicate 16 7
+  -- what the program over cards says of them, and of a card whose amount is below zero
+  pub amountsSaid : amountsOutput (cards ends) (replicate 40 0) ≡ ascii "0\n0\n10000000000\n10000000000\n10000000000\n"
+  pub amountsRefused : amountsOutput (cards ((0 ∷ 0 ∷ 0 ∷ 1 ∷ []) ∷ [])) (replicate 8 0) ≡ ascii "refused 15 0\n"
   pub refused : map (λ r. r .answer) rows ≡ map (λ r. record { number = r .number; place = r .place; length = 0 }) rows
   -- the reports of the twins combine to that of their register; one of them taken out leaves the other's
   pub together : made 136 (combined (reportOfSources (boiler 7 ∷ [])) (reportOfSources (boiler 8 ∷ []))) ≡ reportOfSources (boiler 8 ∷ boiler 7 ∷ [])

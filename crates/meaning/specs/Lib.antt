@@ -3,6 +3,7 @@ pub mod Masses
 pub mod Register
 pub mod Report
 pub mod Text
+pub mod Cards
 pub mod Calls
 pub mod Programs
 pub mod Parts

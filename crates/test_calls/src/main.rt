@@ -67,7 +67,8 @@ fn make_call(call: u64, first: &[u8], second: &[u8], number: u32, buffer: &mut [
         4 => answered(kopristen::kopristen_check(first)),
         5 => texted(kopristen::kopristen_text(first, buffer)),
         6 => named(kopristen::kopristen_name(first, number)),
-        _ => named_of_two(kopristen::kopristen_name_of_two(first, second, number)),
+        7 => named_of_two(kopristen::kopristen_name_of_two(first, second, number)),
+        _ => answered(kopristen::kopristen_amounts(first, buffer)),
     }
 }
 

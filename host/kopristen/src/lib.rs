@@ -29,6 +29,15 @@ pub const MOST_REPORT_BYTES: usize = 56 + 40 * MOST_SOURCES;
 /// A bound that no report's text exceeds: 82 bytes for the line of the totals and 76 for each entry's.
 pub const MOST_TEXT_BYTES: usize = 82 + 76 * MOST_SOURCES;
 
+/// The most stock cards of a call.
+pub const MOST_CARDS: usize = 1_024;
+
+/// The length of the most stock cards, each four numbers of 8 bytes.
+pub const MOST_CARDS_BYTES: usize = 32 * MOST_CARDS;
+
+/// The length of the amounts of the most stock cards, each one number of 8 bytes.
+pub const MOST_AMOUNTS_BYTES: usize = 8 * MOST_CARDS;
+
 /// Calculates a register's report, and answers its length.
 pub fn calculate(register: &[u8], report: &mut [u8]) -> Result<usize, Refusal> {
     raw::calculate(register, report).result()
@@ -65,6 +74,13 @@ pub fn name_of_two<'a>(plant: &'a [u8], contractor: &'a [u8], number: u32) -> Op
     let found = raw::name_of_two(plant, contractor, number);
     let register = if found.which == 1 { plant } else { contractor };
     named(register, found.offset, found.length)
+}
+
+/// Works out the amounts of stock cards, and answers the length of what was written. A card has received, dispatched,
+/// opening and closing stock; its amount is the quantity of a line. All are little-endian numbers of 8 bytes, in
+/// thousandths of the card's unit.
+pub fn amounts(cards: &[u8], amounts: &mut [u8]) -> Result<usize, Refusal> {
+    raw::amounts(cards, amounts).result()
 }
 
 /// "Names are never empty", so the empty part is no name.

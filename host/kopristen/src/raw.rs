@@ -55,6 +55,7 @@ mod c {
             contractor_length: usize,
             number: u32,
         ) -> Found;
+        pub fn kopristen_amounts(cards: *const u8, length: usize, amounts: *mut u8, room: usize) -> Answer;
     }
 }
 
@@ -100,4 +101,9 @@ pub fn name(register: &[u8], number: u32) -> Part {
 pub fn name_of_two(plant: &[u8], contractor: &[u8], number: u32) -> Found {
     // SAFETY: slices.
     unsafe { c::kopristen_name_of_two(plant.as_ptr(), plant.len(), contractor.as_ptr(), contractor.len(), number) }
+}
+
+pub fn amounts(cards: &[u8], amounts: &mut [u8]) -> Answer {
+    // SAFETY: slices; `amounts` is lent alone.
+    unsafe { c::kopristen_amounts(cards.as_ptr(), cards.len(), amounts.as_mut_ptr(), amounts.len()) }
 }

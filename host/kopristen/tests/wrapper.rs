@@ -1,13 +1,15 @@
 //! The wrapper: results, refusals with their sentences, and names as parts of what was lent.
 
 use kopristen::{
-    calculate, check, combine, name, name_of_two, remove, text, Refusal, MOST_REPORT_BYTES, MOST_TEXT_BYTES,
+    amounts, calculate, check, combine, name, name_of_two, remove, text, Refusal, MOST_AMOUNTS_BYTES,
+    MOST_REPORT_BYTES, MOST_TEXT_BYTES,
 };
 use reference::answers::LAST_REFUSAL;
-use reference::draft::{boiler, boilers, register};
+use reference::draft::{boiler, boilers, card, cards, register};
 use reference::layout::{
-    ENTRIES_AT, ENTRY_LENGTH, MOST_LINES, MOST_NAME_BYTES, MOST_REGISTER_LENGTH, MOST_REPORT_LENGTH, MOST_SOURCES,
-    MOST_TEXT_LENGTH, NAME_LENGTHS,
+    AMOUNT_LENGTH, CARD_LENGTH, ENTRIES_AT, ENTRY_LENGTH, MOST_AMOUNTS_LENGTH, MOST_CARDS, MOST_CARDS_LENGTH,
+    MOST_LINES, MOST_NAME_BYTES, MOST_REGISTER_LENGTH, MOST_REPORT_LENGTH, MOST_SOURCES, MOST_TEXT_LENGTH,
+    NAME_LENGTHS,
 };
 use reference::masses::Masses;
 use reference::report::{Entry, Report};
@@ -32,6 +34,9 @@ fn accepted_calls_answer_the_length() {
     let mut written = [0; 200];
     let length = text(&report, &mut written).expect("room enough");
     assert!(written[..length].starts_with(b"2023 2 5862400000 0 0 5862400000\n7 1 2931200000 0 0 "));
+    assert_eq!(amounts(&cards(&[card(1_000, 200, 30, 4), card(5, 0, 2, 0)]), &mut written), Ok(16));
+    assert_eq!(written[..16], [826u64.to_le_bytes(), 7u64.to_le_bytes()].concat());
+    assert_eq!(amounts(&[], &mut []), Ok(0));
 }
 
 /// The wrapper and the header for C state limits and lengths of their own, which must be those of the reference.
@@ -45,6 +50,9 @@ fn lengths_are_those_of_the_reference() {
     assert_eq!(kopristen::MOST_REGISTER_BYTES, MOST_REGISTER_LENGTH);
     assert_eq!(MOST_REPORT_BYTES, MOST_REPORT_LENGTH);
     assert_eq!(MOST_TEXT_BYTES, MOST_TEXT_LENGTH);
+    assert_eq!(kopristen::MOST_CARDS, MOST_CARDS);
+    assert_eq!(kopristen::MOST_CARDS_BYTES, MOST_CARDS_LENGTH);
+    assert_eq!(MOST_AMOUNTS_BYTES, MOST_AMOUNTS_LENGTH);
     let header = include_str!("../../../include/kopristen.h");
     let defined: Vec<&str> = header.lines().filter_map(|line| line.strip_prefix("#define KOPRISTEN_")).collect();
     let expected = [
@@ -57,6 +65,11 @@ fn lengths_are_those_of_the_reference() {
         format!("REPORT_BYTES(sources) ({ENTRIES_AT} + {ENTRY_LENGTH} * (size_t)(sources))"),
         "MOST_REPORT_BYTES KOPRISTEN_REPORT_BYTES(KOPRISTEN_MOST_SOURCES)".to_string(),
         format!("MOST_TEXT_BYTES {MOST_TEXT_LENGTH}"),
+        format!("MOST_CARDS {MOST_CARDS}"),
+        format!("CARDS_BYTES(cards) ({CARD_LENGTH} * (size_t)(cards))"),
+        "MOST_CARDS_BYTES KOPRISTEN_CARDS_BYTES(KOPRISTEN_MOST_CARDS)".to_string(),
+        format!("AMOUNTS_BYTES(cards) ({AMOUNT_LENGTH} * (size_t)(cards))"),
+        "MOST_AMOUNTS_BYTES KOPRISTEN_AMOUNTS_BYTES(KOPRISTEN_MOST_CARDS)".to_string(),
     ];
     assert_eq!(defined, expected);
 }
@@ -76,6 +89,14 @@ fn the_longest_text_has_room() {
 }
 
 #[test]
+fn the_most_cards_have_room() {
+    let most = cards(&[card(5, 4, 3, 2); kopristen::MOST_CARDS]);
+    let mut written = [0; MOST_AMOUNTS_BYTES];
+    assert_eq!(amounts(&most, &mut written), Ok(MOST_AMOUNTS_BYTES));
+    assert_eq!(written[..], 2u64.to_le_bytes().repeat(kopristen::MOST_CARDS));
+}
+
+#[test]
 fn refusals_say_what_is_wrong() {
     let refused = calculate(&boilers(&[7, 7]).bytes(), &mut [0; 136]);
     let refusal = refused.expect_err("a number twice");
@@ -85,6 +106,10 @@ fn refusals_say_what_is_wrong() {
     assert_eq!(error.to_string(), refusal.to_string());
     assert_eq!(check(&[]), Err(Refusal { number: 9, place: 1 }));
     assert_eq!(remove(&calculated(&[7]), 8, &mut []), Err(Refusal { number: 13, place: 8 }));
+    let exchanged = cards(&[card(0, 0, 10, 3), card(0, 0, 3, 10)]);
+    assert_eq!(amounts(&exchanged, &mut []), Err(Refusal { number: 15, place: 1 }));
+    assert_eq!(amounts(&exchanged[..63], &mut []), Err(Refusal { number: 14, place: 0 }));
+    assert_eq!(amounts(&exchanged[..32], &mut []), Err(Refusal { number: 8, place: 8 }));
 }
 
 #[test]
@@ -96,13 +121,14 @@ fn each_refusal_has_its_own_sentence() {
     assert!(Refusal { number: LAST_REFUSAL + 1, place: 3 }.to_string().starts_with("refused"));
 }
 
-/// The place of 3 to 7 is the index of a source or of a line, and of no other refusal.
+/// The place of 3 to 7, 14 and 15 is the index of a source, of a line or of a card, and of no other refusal.
 #[test]
 fn an_index_is_said_to_be_one() {
     for number in 1..=LAST_REFUSAL {
         let sentence = Refusal { number, place: 3 }.to_string();
-        let is_index = sentence.contains("source 3, counted from 0,") || sentence.contains("line 3, counted from 0,");
-        assert_eq!(is_index, (3..=7).contains(&number), "{sentence}");
+        let is_index =
+            ["source", "line", "card"].iter().any(|what| sentence.contains(&format!("{what} 3, counted from 0,")));
+        assert_eq!(is_index, [3, 4, 5, 6, 7, 14, 15].contains(&number), "{sentence}");
     }
 }
 

@@ -1,7 +1,7 @@
 //! "Refusal numbers": what a call answers, and what it leaves in the buffer lent to it.
 
 /// The refusal table goes from 1 to this number.
-pub const LAST_REFUSAL: u32 = 13;
+pub const LAST_REFUSAL: u32 = 15;
 
 /// A row of the refusal table that applies, and its place.
 #[derive(Clone, Copy, Debug, PartialEq, Eq)]

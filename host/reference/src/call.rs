@@ -13,6 +13,7 @@ pub enum Entry {
     Text = 5,
     Name = 6,
     NameOfTwo = 7,
+    Amounts = 8,
 }
 
 /// A call: its one or two inputs, its number, and a buffer of `room` bytes that all hold `fill`. What an entry point
@@ -70,6 +71,10 @@ impl Call {
         Call::of(Entry::NameOfTwo, plant, contractor, number, 0)
     }
 
+    pub fn amounts(cards: &[u8], room: usize) -> Call {
+        Call::of(Entry::Amounts, cards, &[], 0, room)
+    }
+
     pub fn filled_with(mut self, fill: u8) -> Call {
         self.fill = fill;
         self
@@ -97,6 +102,7 @@ impl Call {
                 let (which, offset, length) = calls::name_of_two(first, second, self.number);
                 vec![u64::from(which), offset, length]
             }
+            Entry::Amounts => numbers(calls::amounts(first, &mut buffer)),
         };
         Reply { answer, buffer }
     }

@@ -1,7 +1,10 @@
-//! The calls, each with its tests in document 01's order, and what the report program writes.
+//! The calls, each with its tests in the order that its document says, and what the report program and the amounts
+//! program write.
 
 use crate::answers::{deliver, Answer, Refusal};
-use crate::layout::MOST_SOURCES;
+use crate::bytes::append;
+use crate::cards::amounts_of;
+use crate::layout::{AMOUNT_LENGTH, MOST_SOURCES};
 use crate::masses::masses_of;
 use crate::methods::row_of;
 use crate::register::{Register, Source};
@@ -62,10 +65,25 @@ pub fn name_of_two(plant: &[u8], contractor: &[u8], number: u32) -> (u32, u64, u
     }
 }
 
+/// "amounts written in card order, 8 bytes each", after 14 and 15; "then 8".
+pub fn amounts(cards: &[u8], buffer: &mut [u8]) -> Answer {
+    let amounts = amounts_of(cards);
+    deliver(amounts.map(|amounts| amounts_bytes(&amounts)), buffer)
+}
+
 /// "The report program reads a register on standard input": what it writes.
 pub fn report_program(input: &[u8]) -> Vec<u8> {
     match calculated(input) {
         Ok(report) => report.text(),
+        Err(refusal) => refused_line(refusal.number, refusal.place),
+    }
+}
+
+/// What the amounts program writes of a file of cards: a line for each card in their order, its amount as a plain
+/// decimal.
+pub fn amounts_program(input: &[u8]) -> Vec<u8> {
+    match amounts_of(input) {
+        Ok(amounts) => amounts.iter().map(|amount| format!("{amount}\n")).collect::<String>().into_bytes(),
         Err(refusal) => refused_line(refusal.number, refusal.place),
     }
 }
@@ -137,4 +155,12 @@ fn removed(report: &[u8], number: u32) -> Result<Report, Refusal> {
     let index = index.ok_or(Refusal::new(13, u64::from(number)))?;
     report.entries.remove(index);
     Ok(report)
+}
+
+fn amounts_bytes(amounts: &[u64]) -> Vec<u8> {
+    let mut bytes = vec![];
+    for &amount in amounts {
+        append(&mut bytes, AMOUNT_LENGTH, amount);
+    }
+    bytes
 }

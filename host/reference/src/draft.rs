@@ -1,7 +1,8 @@
-//! Registers written out of their parts: for tests, cases, examples and generated inputs.
+//! Registers and stock cards written out of their parts: for tests, cases, examples and generated inputs.
 
 use crate::bytes::append;
-use crate::layout::{line_at, source_at, REGISTER_LAYOUT, SOURCES_AT};
+use crate::cards::Card;
+use crate::layout::{line_at, source_at, CARD_ENTRY_LENGTH, REGISTER_LAYOUT, SOURCES_AT};
 use crate::register::Line;
 
 /// A source as a plant would state it.
@@ -118,6 +119,20 @@ fn append_line(bytes: &mut Vec<u8>, line: &Line) {
     append(bytes, 4, u64::from(line.a));
     append(bytes, 4, u64::from(line.b));
     append(bytes, 8, line.quantity);
+}
+
+/// A stock card, in the order of document 02's entries.
+pub const fn card(received: u64, dispatched: u64, opening: u64, closing: u64) -> Card {
+    Card { received, dispatched, opening, closing }
+}
+
+/// The bytes of stock cards.
+pub fn cards(cards: &[Card]) -> Vec<u8> {
+    let mut bytes = vec![];
+    for entry in cards.iter().flat_map(Card::entries) {
+        append(&mut bytes, CARD_ENTRY_LENGTH, entry);
+    }
+    bytes
 }
 
 /// The bytes with a number of `width` bytes put over what stood at a place.

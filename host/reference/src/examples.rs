@@ -1,11 +1,28 @@
-//! Registers for people to look at and to try the programs on.
+//! Registers and stock cards for people to look at and to try the programs on.
 
-use crate::draft::{boilers, line, register, source, Draft, DraftSource};
+use crate::cards::Card;
+use crate::draft::{boilers, card, cards, line, register, source, Draft, DraftSource};
 use crate::register::Line;
 
-/// The examples and their file names.
+/// The registers and their file names.
 pub fn all() -> [(&'static str, Vec<u8>); 2] {
     [("two-boilers", boilers(&[8, 7]).bytes()), ("every-method", every_method().bytes())]
+}
+
+/// Stock cards of the works with every method, each with what it is of, which its bytes do not say. The amounts of the
+/// first three are quantities of that register.
+pub const STORES: [(&str, Card); 6] = [
+    ("natural gas, thousand m3; Q of line 15 of every-method", card(5_412_350, 412_350, 0, 0)),
+    ("coal, t; Q of line 4 of every-method", card(1_240_000, 35_000, 310_000, 515_000)),
+    ("limestone, t; Q of line 30 of every-method", card(1_212_500_000, 0, 86_000_000, 98_500_000)),
+    ("heavy oil, t", card(2_150_000, 0, 380_500, 412_750)),
+    ("coke, t; more dispatched than received", card(120_000, 260_000, 415_000, 95_000)),
+    ("scrap, t; none consumed", card(64_200, 18_700, 120_300, 165_800)),
+];
+
+/// The bytes of those cards.
+pub fn stores() -> Vec<u8> {
+    cards(&STORES.map(|(_, card)| card))
 }
 
 /// A works with every method, parameter and kind, and every unit and carbonate.

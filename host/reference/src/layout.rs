@@ -1,5 +1,5 @@
-//! How document 01 lays out registers and reports: limits, lengths and places, each stated once, and what follows from
-//! them.
+//! How document 01 lays out registers and reports, and document 02 stock cards: limits, lengths and places, each stated
+//! once, and what follows from them.
 
 use std::ops::RangeInclusive;
 
@@ -66,6 +66,21 @@ pub const MOST_REPORT_LENGTH: usize = report_length(MOST_SOURCES);
 pub const MOST_TEXT_LENGTH: usize = widest_line([*YEARS.end(), MOST_SOURCES as u64], MOST_SOURCES)
     + MOST_SOURCES * widest_line([u32::MAX as u64, *METHODS.end()], 1);
 
+/// "Up to 1,024 cards are worked out in a call of their own"
+pub const MOST_CARDS: usize = 1_024;
+
+/// "cards of four entries", "Entries are 8-byte numbers"
+pub const CARD_ENTRIES: usize = 4;
+pub const CARD_ENTRY_LENGTH: usize = 8;
+pub const CARD_LENGTH: usize = CARD_ENTRY_LENGTH * CARD_ENTRIES;
+
+/// "amounts written in card order, 8 bytes each"
+pub const AMOUNT_LENGTH: usize = 8;
+
+/// The lengths of the most cards and of their amounts.
+pub const MOST_CARDS_LENGTH: usize = card_at(MOST_CARDS);
+pub const MOST_AMOUNTS_LENGTH: usize = amounts_length(MOST_CARDS);
+
 /// Where a source entry begins in a register.
 pub const fn source_at(index: usize) -> usize {
     SOURCES_AT + SOURCE_LENGTH * index
@@ -94,6 +109,16 @@ pub const fn figure_at(figure: usize) -> usize {
 /// "whole length 56 + 40n"
 pub const fn report_length(entries: usize) -> usize {
     entry_at(entries)
+}
+
+/// Where a card begins.
+pub const fn card_at(index: usize) -> usize {
+    CARD_LENGTH * index
+}
+
+/// The length of the amounts of so many cards.
+pub const fn amounts_length(cards: usize) -> usize {
+    AMOUNT_LENGTH * cards
 }
 
 /// The bytes of a text's line: its two fields in front, then the largest figures that so many sources come to.

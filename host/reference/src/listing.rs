@@ -1,9 +1,10 @@
-//! A register's fields as text, for people.
+//! The fields of a register and of stock cards as text, for people.
 
 use crate::answers::Refusal;
 use crate::bytes::number_at;
-use crate::calls::report_program;
-use crate::layout::{line_at, source_at};
+use crate::calls::{amounts_program, report_program};
+use crate::cards::Card;
+use crate::layout::{card_at, line_at, source_at, CARD_LENGTH};
 use crate::register::Register;
 
 /// The header's fields behind the tag: name, first byte, width.
@@ -85,4 +86,19 @@ fn lines(register: &Register) -> String {
         );
     }
     text
+}
+
+/// The entries and amounts of stock cards, each beside what the card is of, and what the amounts program writes.
+pub fn cards_listing(bytes: &[u8], names: &[&str]) -> String {
+    let mut text = "Cards, in thousandths of their units\n\n".to_string();
+    text += "  at  index     received   dispatched      opening      closing       amount  of\n";
+    for (index, (card, name)) in bytes.chunks(CARD_LENGTH).map(Card::read).zip(names).enumerate() {
+        let [received, dispatched, opening, closing] = card.entries();
+        text += &format!(
+            "{:>4}  {index:>5}  {received:>11}  {dispatched:>11}  {opening:>11}  {closing:>11}  {:>11}  {name}\n",
+            card_at(index),
+            card.amount(),
+        );
+    }
+    text + &format!("\nWhat the amounts program writes\n\n{}", String::from_utf8_lossy(&amounts_program(bytes)))
 }

@@ -9,19 +9,21 @@ use reference::{calls, cases, examples, generator, listing, samples};
 
 const USAGE: &str = "\
 reference report < REGISTER     what the report program writes
+reference amounts < CARDS       what the amounts program writes
 reference list < REGISTER       a register's fields, and what the report program writes
 reference counts SEED COUNT     how many of so many generated calls gave each answer
 reference cases DIR             data/calls, stdout and calls.txt: chosen calls, what they answer, and a listing
 reference cases DIR SEED COUNT  the same of generated calls
 reference examples DIR          the examples with their listings
-reference samples DIR           the registers and reports on which the front door is tried
+reference samples DIR           the files on which the front door is tried
 ";
 
 fn main() -> ExitCode {
     let words: Vec<String> = std::env::args().skip(1).collect();
     let words: Vec<&str> = words.iter().map(String::as_str).collect();
     let done = match words[..] {
-        ["report"] => report(),
+        ["report"] => write_out(calls::report_program),
+        ["amounts"] => write_out(calls::amounts_program),
         ["list"] => list(),
         ["counts", seed, count] => counts(seed, count),
         ["cases", dir] => write_cases(Path::new(dir), &cases::chosen()),
@@ -48,8 +50,9 @@ fn input() -> io::Result<Vec<u8>> {
     Ok(input)
 }
 
-fn report() -> io::Result<()> {
-    io::stdout().write_all(&calls::report_program(&input()?))
+/// What a program writes of standard input.
+fn write_out(program: fn(&[u8]) -> Vec<u8>) -> io::Result<()> {
+    io::stdout().write_all(&program(&input()?))
 }
 
 fn list() -> io::Result<()> {
@@ -96,7 +99,9 @@ fn write_examples(dir: &Path) -> io::Result<()> {
         write(&dir.join(format!("{name}.register")), &register)?;
         write(&dir.join(format!("{name}.txt")), listing.as_bytes())?;
     }
-    Ok(())
+    let listing = listing::cards_listing(&examples::stores(), &examples::STORES.map(|(name, _)| name));
+    write(&dir.join("stores.cards"), &examples::stores())?;
+    write(&dir.join("stores.txt"), listing.as_bytes())
 }
 
 fn write_samples(dir: &Path) -> io::Result<()> {

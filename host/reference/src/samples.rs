@@ -1,9 +1,10 @@
-//! Files on which the front door is tried: registers, and the reports that it must make of them.
+//! Files on which the front door is tried: registers and stock cards, and what it must make of them.
 
 use crate::answers::Answer;
 use crate::calls;
-use crate::draft::{boiler, boiler_line, boilers, line, register, source, Draft};
-use crate::examples;
+use crate::cards::Card;
+use crate::draft::{boiler, boiler_line, boilers, cards, line, register, source, Draft};
+use crate::examples::{self, stores, STORES};
 use crate::layout::{MOST_REPORT_LENGTH, SOURCES_AT};
 
 /// The samples and their file names.
@@ -22,6 +23,7 @@ pub fn all() -> Vec<(&'static str, Vec<u8>)> {
     samples.push(("two-boilers.report", two_boilers));
     samples.push(("every-method.report", every_method));
     samples.extend(refused(&boilers));
+    samples.extend(of_cards());
     samples
 }
 
@@ -66,5 +68,21 @@ fn refused(boilers_bytes: &[u8]) -> [(&'static str, Vec<u8>); 7] {
         ("refused-5.register", with_boiler(source(8, 1, 0, &[boiler_line(), above_range]))),
         ("refused-6.register", with_boiler(source(8, 3, 0, &more_out))),
         ("refused-7.register", with_boiler(source(8, 2, 0, &[methane]))),
+    ]
+}
+
+/// The amounts of the example's stock cards; no cards; and cards for the refusals 14, of an entry and of the length,
+/// and 15: a weight in grams for kilograms, a line feed at the end, opening and closing stock exchanged.
+fn of_cards() -> [(&'static str, Vec<u8>); 5] {
+    let mut in_grams = STORES.map(|(_, card)| card);
+    in_grams[2].received *= 1_000;
+    let mut exchanged = STORES.map(|(_, card)| card);
+    exchanged[4] = Card { opening: exchanged[4].closing, closing: exchanged[4].opening, ..exchanged[4] };
+    [
+        ("stores.amounts", made(|buffer| calls::amounts(&stores(), buffer))),
+        ("no.cards", vec![]),
+        ("refused-14.cards", cards(&in_grams)),
+        ("refused-14-length.cards", [&stores()[..], b"\n"].concat()),
+        ("refused-15.cards", cards(&exchanged)),
     ]
 }

@@ -1,6 +1,8 @@
-//! `docs/FORMATS.md` against the reference: which pairs and lines its tables allow, what they make of them, and the
-//! limits that it names. Who writes a program by that page writes it by these figures.
+//! `docs/FORMATS.md` against the reference: which pairs and lines its tables allow, what they make of them, what it says
+//! of stock cards, and the limits that it names. Who writes a program by that page writes it by these figures.
 
+#[path = "formats/cards.rs"]
+mod cards;
 #[path = "formats/formula.rs"]
 mod formula;
 #[path = "formats/kinds.rs"]

@@ -1,4 +1,5 @@
-//! How document 01 lays out registers and reports, stated for this side alone: it shares nothing with the reference.
+//! How document 01 lays out registers and reports, and document 02 stock cards, stated for this side alone: it shares
+//! nothing with the reference.
 
 use std::ops::RangeInclusive;
 
@@ -32,6 +33,11 @@ pub const TOTALS_AT: usize = 24;
 pub const ENTRIES_AT: usize = TOTALS_AT + FIGURE_LENGTH * FIGURES;
 pub const FIGURES_AT: usize = 8;
 pub const ENTRY_LENGTH: usize = FIGURES_AT + FIGURE_LENGTH * FIGURES;
+
+// Stock cards: a card is received, dispatched, opening and closing, 8 bytes each, and an amount as long as one of them.
+pub const MOST_CARDS: usize = 1_024;
+pub const AMOUNT_LENGTH: usize = 8;
+pub const CARD_LENGTH: usize = 4 * AMOUNT_LENGTH;
 
 pub const fn report_length(entries: usize) -> usize {
     ENTRIES_AT + ENTRY_LENGTH * entries

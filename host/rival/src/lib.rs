@@ -1,11 +1,12 @@
 //! The calls once more in safe Rust, written for speed, for the proved ones to be measured beside.
 //!
-//! No heap, wide integers, one pass over the lines, `sort_unstable` for the order, a hash of its own for repeated
-//! numbers where no order is wanted. It is compared with the reference as the proved library is.
+//! No heap, wide integers, one pass over the lines and one over the cards, `sort_unstable` for the order, a hash of its
+//! own for repeated numbers where no order is wanted. It is compared with the reference as the proved library is.
 
 #![forbid(unsafe_code)]
 
 mod calculation;
+mod cards;
 mod combination;
 mod fields;
 mod layout;
@@ -67,4 +68,9 @@ pub fn name(register: &[u8], number: u32) -> Part {
 pub fn name_of_two(plant: &[u8], contractor: &[u8], number: u32) -> Found {
     let (which, (offset, length)) = lookup::of_two(plant, contractor, number).unwrap_or((1, (0, 0)));
     Found { which, offset, length }
+}
+
+#[inline(never)]
+pub fn amounts(cards: &[u8], amounts: &mut [u8]) -> Answer {
+    answer(cards::worked_out(cards, amounts))
 }

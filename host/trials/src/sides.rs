@@ -24,6 +24,7 @@ macro_rules! side {
                     let found = calls::name_of_two(first, second, number);
                     return [u64::from(found.which), found.offset, found.length];
                 }
+                Entry::Amounts => calls::amounts(first, buffer),
             };
             [u64::from(answer.number), answer.place, answer.length]
         }

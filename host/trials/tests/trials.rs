@@ -1,8 +1,10 @@
 //! The trials themselves: what differs is found, the Rust side is right, and a small stack is enough.
 
 use reference::call::{Call, Entry};
-use reference::generator::{registers, Random};
-use reference::layout::{report_length, MOST_REPORT_LENGTH, MOST_SOURCES, MOST_TEXT_LENGTH};
+use reference::generator::{cards, registers, Random};
+use reference::layout::{
+    report_length, MOST_AMOUNTS_LENGTH, MOST_CARDS, MOST_REPORT_LENGTH, MOST_SOURCES, MOST_TEXT_LENGTH,
+};
 use trials::compared::generated;
 use trials::demand3::dealings;
 use trials::lent::Around;
@@ -48,7 +50,7 @@ fn what_differs_is_found() {
     assert!(dealings(none_combined, 4, 20).is_err());
 }
 
-/// A call of each entry point over as many sources as there may be.
+/// A call of each entry point over as many sources or cards as there may be.
 fn largest_calls() -> Vec<Call> {
     const HALF: usize = MOST_SOURCES / 2;
     let mut random = Random::of(5, 0);
@@ -68,6 +70,7 @@ fn largest_calls() -> Vec<Call> {
         Call::text(&report, MOST_TEXT_LENGTH),
         Call::name(&register, last),
         Call::name_of_two(&register, &register, last),
+        Call::amounts(&cards::valid_of(&mut random, MOST_CARDS), MOST_AMOUNTS_LENGTH),
     ]
 }
 

@@ -5,7 +5,7 @@
 //!
 //! | Bytes | Holds |
 //! |---|---|
-//! | 0 | the entry point: 1 calculate, 2 combine, 3 remove, 4 check, 5 text, 6 name, 7 name of two |
+//! | 0 | the entry point: 1 calculate, 2 combine, 3 remove, 4 check, 5 text, 6 name, 7 name of two, 8 amounts |
 //! | 1 | the byte that fills the buffer |
 //! | 2-3 | zero |
 //! | 4-7 | number (remove, name, name of two), else 0 |

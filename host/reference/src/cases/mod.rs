@@ -3,6 +3,7 @@
 //! The answers of the chosen calls are stated by hand, so these test the reference itself.
 
 mod balances;
+mod cards;
 mod check;
 mod combination;
 mod file;
@@ -47,6 +48,7 @@ pub fn chosen() -> Vec<Group> {
         removal::groups(),
         texts::groups(),
         names::groups(),
+        cards::groups(),
     ];
     parts.into_iter().flatten().collect()
 }

@@ -1,5 +1,6 @@
 //! Calls made from a seed and an index: the same seed and index give the same call.
 
+pub mod cards;
 mod dealing;
 mod edges;
 pub mod faults;
@@ -19,7 +20,7 @@ use faults::{spoilt, FAULTS};
 
 /// Families of calls. Each is given what makes it random, and how often it had its turn, to go through its lists in
 /// order.
-const FAMILIES: [fn(&mut Random, u64) -> Call; 12] = [
+const FAMILIES: [fn(&mut Random, u64) -> Call; 13] = [
     |random, _| calculation(random, |random| registers::valid(random).bytes()),
     |random, turn| calculation(random, |random| edges::register(random, turn).bytes()),
     |random, turn| calculation(random, |random| with_fault(random, turn)),
@@ -32,6 +33,7 @@ const FAMILIES: [fn(&mut Random, u64) -> Call; 12] = [
     name,
     name_of_two,
     combination_of_spoilt,
+    amounts,
 ];
 
 pub fn call(seed: u64, index: u64) -> Call {
@@ -192,4 +194,25 @@ fn name_of_two(random: &mut Random, turn: u64) -> Call {
         registers[spoilt] = with_a_fault_of([plant, contractor][spoilt].clone(), random, turn);
     }
     Call::name_of_two(&registers[0], &registers[1], number)
+}
+
+/// Stock cards: accepted, spoilt by one fault or by two, of edges alone, or without a plan.
+fn some_cards(random: &mut Random, turn: u64) -> Vec<u8> {
+    let turn = turn as usize;
+    let faults = cards::FAULTS.len();
+    match random.below(8) {
+        0..=2 => cards::valid(random),
+        3 => cards::spoilt(random, &[turn % faults]),
+        4 => cards::spoilt(random, &[turn % faults, turn / faults % faults]),
+        5 | 6 => cards::of_edges(random),
+        _ => {
+            let bytes = cards::spoilt(random, &[]);
+            spoil::at_random(bytes, random)
+        }
+    }
+}
+
+fn amounts(random: &mut Random, turn: u64) -> Call {
+    let cards = some_cards(random, turn);
+    with_room(random, |room| Call::amounts(&cards, room))
 }

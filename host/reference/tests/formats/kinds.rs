@@ -137,7 +137,7 @@ impl Limits {
     }
 }
 
-fn place(byte: &str, width: &str) -> Range<usize> {
+pub fn place(byte: &str, width: &str) -> Range<usize> {
     let [first, width] = [byte, width].map(single::<u8>).map(usize::from);
     first..first + width
 }

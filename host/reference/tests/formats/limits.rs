@@ -3,9 +3,12 @@
 
 use std::ops::RangeInclusive;
 
+use reference::cards::{AMOUNTS, MOST_ENTRY};
 use reference::draft::boiler_line;
+use reference::examples::STORES;
 use reference::layout::{
-    ENTRIES_AT, ENTRY_LENGTH, LINE_LENGTH, METHODS, MOST_LINES, MOST_NAME_BYTES, MOST_REGISTER_LENGTH,
+    amounts_length, card_at, AMOUNT_LENGTH, CARD_LENGTH, ENTRIES_AT, ENTRY_LENGTH, LINE_LENGTH, METHODS,
+    MOST_AMOUNTS_LENGTH, MOST_CARDS, MOST_CARDS_LENGTH, MOST_LINES, MOST_NAME_BYTES, MOST_REGISTER_LENGTH,
     MOST_REPORT_LENGTH, MOST_SOURCES, MOST_TEXT_LENGTH, NAME_LENGTHS, REGISTER_LAYOUT, REPORT_LAYOUT, SOURCES_AT,
     SOURCE_LENGTH, YEARS,
 };
@@ -32,9 +35,9 @@ fn equivalent() -> String {
 }
 
 /// "10^15"
-fn most_equivalent() -> String {
-    let power = MOST_EQUIVALENT.ilog10();
-    assert_eq!(10_u128.pow(power), MOST_EQUIVALENT);
+fn power_of_ten(number: u128) -> String {
+    let power = number.ilog10();
+    assert_eq!(10_u128.pow(power), number);
     format!("10^{power}")
 }
 
@@ -117,17 +120,38 @@ fn fields_of_a_report_entry() {
             ("CO2", "any mass with which the equivalent is in its limit".to_string()),
             ("CH4", "likewise".to_string()),
             ("N2O", "likewise".to_string()),
-            ("equivalent", format!("{}, and at most {}", equivalent(), most_equivalent())),
+            ("equivalent", format!("{}, and at most {}", equivalent(), power_of_ten(MOST_EQUIVALENT))),
         ],
     );
 }
 
 #[test]
-fn sentences_with_limits() {
+fn fields_of_a_card_and_of_its_amount() {
+    compare(
+        "### Card",
+        &[
+            ("received", format!("0 to {MOST_ENTRY}: what came in during the year")),
+            ("dispatched", format!("0 to {MOST_ENTRY}: what left the plant for others")),
+            ("opening", format!("0 to {MOST_ENTRY}: the stock as the year begins")),
+            ("closing", format!("0 to {MOST_ENTRY}: the stock as the year ends")),
+        ],
+    );
+    let amount = format!("received - dispatched + opening - closing, and {} to {}", AMOUNTS.start(), AMOUNTS.end());
+    compare("### Amount", &[("amount", amount)]);
+}
+
+fn assert_said(sentences: &[String]) {
     let page: Vec<String> = page().split_whitespace().map(str::to_string).collect();
     let page = page.join(" ");
-    let (equivalent, most_equivalent) = (equivalent(), most_equivalent());
-    for sentence in [
+    for sentence in sentences {
+        assert!(page.contains(sentence), "the page does not say: {sentence}");
+    }
+}
+
+#[test]
+fn sentences_with_limits() {
+    let (equivalent, most_equivalent) = (equivalent(), power_of_ten(MOST_EQUIVALENT));
+    assert_said(&[
         format!("t name bytes it has {SOURCES_AT} + {SOURCE_LENGTH}n + {LINE_LENGTH}m + t bytes."),
         format!("The most are {MOST_SOURCES} sources, {MOST_LINES} lines and {MOST_NAME_BYTES} name bytes,"),
         format!("the longest register has {MOST_REGISTER_LENGTH} bytes. The empty one has {SOURCES_AT}."),
@@ -141,7 +165,28 @@ fn sentences_with_limits() {
         format!("| 1 | the register has fewer than {SOURCES_AT} bytes,"),
         format!("| 7 | a source's equivalent is above {most_equivalent} g |"),
         format!("| 12 | two reports have more than {MOST_SOURCES} entries together |"),
-    ] {
-        assert!(page.contains(&sentence), "the page does not say: {sentence}");
-    }
+    ]);
+}
+
+#[test]
+fn sentences_on_cards() {
+    let (most_entry, most_amount) = (power_of_ten(MOST_ENTRY.into()), power_of_ten(*AMOUNTS.end() as u128));
+    let count = STORES.len();
+    let (name, card) = STORES[1];
+    assert!(name.starts_with("coal, t;"));
+    let [received, dispatched, opening, closing] = card.entries();
+    assert_said(&[
+        format!("With n cards there are {CARD_LENGTH}n bytes. The most are {MOST_CARDS} cards,"),
+        format!(" cards, {MOST_CARDS_LENGTH} bytes; there may be none."),
+        format!("Card i, counted from 0, begins at byte {CARD_LENGTH}i."),
+        format!("The amount of card i begins at byte {AMOUNT_LENGTH}i,"),
+        format!("There are at most {MOST_AMOUNTS_LENGTH} bytes, and of no cards none."),
+        format!("thousandths of its card's unit, and its {AMOUNT_LENGTH} bytes are those of Q in a line."),
+        format!("`examples/stores.cards` has {} bytes: {CARD_LENGTH} x {count}. Card 1 is of coal,", card_at(count)),
+        format!("Its amount is {received} - {dispatched} + {opening} - {closing} = {}.", card.amount()),
+        format!("`tests/stores.amounts` has {} bytes: {AMOUNT_LENGTH} x {count}.", amounts_length(count)),
+        format!("| 14 | the bytes are not whole cards of {CARD_LENGTH} bytes or more than {MOST_CARDS} cards;"),
+        format!("; or a card has an entry above {most_entry} |"),
+        format!("| 15 | a card's amount is below zero or above {most_amount} |"),
+    ]);
 }

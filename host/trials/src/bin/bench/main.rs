@@ -30,7 +30,7 @@ fn main() {
 }
 
 fn table() {
-    println!("| Call | proved, ns | Rust, ns | ratio | proved, ns a source | proved, instr. | Rust, instr. | ratio |");
+    println!("| Call | proved, ns | Rust, ns | ratio | proved, ns each | proved, instr. | Rust, instr. | ratio |");
     println!("|---|---|---|---|---|---|---|---|");
     for row in &ROWS {
         let times = times::measured(row);
@@ -40,5 +40,5 @@ fn table() {
 }
 
 fn count(row: &Row) {
-    println!("{:>18}: {}", row.name, counts::both(row));
+    println!("{:>22}: {}", row.name, counts::both(row));
 }

@@ -5,10 +5,10 @@ use std::io::Write;
 use reference::call::Call;
 use reference::cases::{self, Case, Group};
 use reference::draft::register;
-use reference::generator::{registers, Random};
-use reference::layout::{report_length, MOST_SOURCES};
+use reference::generator::{cards, registers, Random};
+use reference::layout::{amounts_length, report_length, MOST_CARDS, MOST_SOURCES};
 
-/// A call and how many sources it goes over. The inputs are a pool, so that no branch is learnt.
+/// A call and how many sources it goes over, or cards. The inputs are a pool, so that no branch is learnt.
 pub struct Row {
     pub name: &'static str,
     pub sources: usize,
@@ -17,7 +17,7 @@ pub struct Row {
 
 const SEED: u64 = 1;
 
-pub const ROWS: [Row; 9] = [
+pub const ROWS: [Row; 10] = [
     Row { name: "calculate 1", sources: 1, call: calculation },
     Row { name: "calculate 8", sources: 8, call: calculation },
     Row { name: "calculate 64", sources: 64, call: calculation },
@@ -27,6 +27,7 @@ pub const ROWS: [Row; 9] = [
     Row { name: "check 512", sources: MOST_SOURCES, call: |random, sources| Call::check(&report(random, sources)) },
     Row { name: "name, last of 512", sources: MOST_SOURCES, call: last_name },
     Row { name: "text of 512", sources: MOST_SOURCES, call: text },
+    Row { name: "amounts of 1,024 cards", sources: MOST_CARDS, call: amounts },
 ];
 
 impl Row {
@@ -84,4 +85,8 @@ fn text(random: &mut Random, sources: usize) -> Call {
     let report = report(random, sources);
     let needed = Call::text(&report, 0).reply().answer[1];
     Call::text(&report, needed as usize)
+}
+
+fn amounts(random: &mut Random, count: usize) -> Call {
+    Call::amounts(&cards::valid_of(random, count), amounts_length(count))
 }
