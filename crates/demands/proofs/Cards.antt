@@ -20,12 +20,12 @@ use Rattle.basis.proofs.Rows.{unpacked, unpacked-same, packed-unpacked}
 use Rattle.basis.proofs.Counting.{counted-all, sum-alike}
 use Rattle.basis.proofs.Lists.{_&_}
 use Rattle.meaning.specs.Methods.{mostQuantity}
-use Rattle.meaning.specs.Cards.{cardCount, cardAt, comesIn, goesOut, amountOf, mostStock, wrongStock, wrongAmount, cardsTest, amountTest, cardTests, amountsOf, amountBytes}
+use Rattle.meaning.specs.Cards.{cardCount, cardAt, comesIn, goesOut, amountOf, mostEntry, wrongEntries, wrongAmount, cardsTest, amountTest, cardTests, amountsOf, amountBytes}
 use Rattle.meaning.specs.Calls.{roomTest, amounts}
 use Rattle.meaning.proofs.Cards.{length-amountsOf, amount-at, length-amounts}
 use Rattle.demands.specs.Fields.{cardsIn, received, dispatched, opening, closing}
 use Rattle.demands.specs.Exactly.{at}
-use Rattle.demands.specs.Refusals.{NotCards, StockAbove, NoAmount, cardRows, amountRows}
+use Rattle.demands.specs.Refusals.{NotCards, EntryAbove, NoAmount, cardRows, amountRows}
 use Rattle.demands.specs.Demand2.{Consumed, AmountsOf}
 use Rattle.demands.specs.Calls.{WorksOut}
 use Rattle.demands.specs.Fixed.{Once}
@@ -50,11 +50,11 @@ cards-decide b =
 
 -- 14, of a card
 module _ (b : List ℕ) (i : ℕ) where
-  stock-above : wrongStock (cardAt b i) ≡ true → StockAbove b i
-  unfolding wrongStock cardAt
-  stock-above e =
-      let above : (n : ℕ) → Bool = ltb mostStock in
-      let is-above : (n : ℕ) → above n ≡ true → mostStock < n = ltb-true mostStock in
+  entry-above : wrongEntries (cardAt b i) ≡ true → EntryAbove b i
+  unfolding wrongEntries cardAt
+  entry-above e =
+      let above : (n : ℕ) → Bool = ltb mostEntry in
+      let is-above : (n : ℕ) → above n ≡ true → mostEntry < n = ltb-true mostEntry in
       let r = received b i in
       let d = dispatched b i in
       let o = opening b i in
@@ -64,14 +64,14 @@ module _ (b : List ℕ) (i : ℕ) where
       (λ h. inr (inr (inr (is-above c h))))
       (or-either (above r || above d || above o) (above c) e)
 
-  above-stock : StockAbove b i → wrongStock (cardAt b i) ≡ true
-  unfolding wrongStock cardAt
-  above-stock (inl l) = rw (lt-ltb mostStock (received b i) l)
-  above-stock (inr (inl l)) = left-or (left-or (right-or (ltb mostStock (received b i)) (lt-ltb mostStock (dispatched b i) l)) (ltb mostStock (opening b i))) (ltb mostStock (closing b i))
-  above-stock (inr (inr (inl l))) =
-      left-or (right-or (ltb mostStock (received b i) || ltb mostStock (dispatched b i)) (lt-ltb mostStock (opening b i) l)) (ltb mostStock (closing b i))
-  above-stock (inr (inr (inr l))) =
-      right-or (ltb mostStock (received b i) || ltb mostStock (dispatched b i) || ltb mostStock (opening b i)) (lt-ltb mostStock (closing b i) l)
+  above-entry : EntryAbove b i → wrongEntries (cardAt b i) ≡ true
+  unfolding wrongEntries cardAt
+  above-entry (inl l) = rw (lt-ltb mostEntry (received b i) l)
+  above-entry (inr (inl l)) = left-or (left-or (right-or (ltb mostEntry (received b i)) (lt-ltb mostEntry (dispatched b i) l)) (ltb mostEntry (opening b i))) (ltb mostEntry (closing b i))
+  above-entry (inr (inr (inl l))) =
+      left-or (right-or (ltb mostEntry (received b i) || ltb mostEntry (dispatched b i)) (lt-ltb mostEntry (opening b i) l)) (ltb mostEntry (closing b i))
+  above-entry (inr (inr (inr l))) =
+      right-or (ltb mostEntry (received b i) || ltb mostEntry (dispatched b i) || ltb mostEntry (opening b i)) (lt-ltb mostEntry (closing b i) l)
 
   -- 15
   amount-none : wrongAmount (cardAt b i) ≡ true → NoAmount b i
@@ -93,7 +93,7 @@ module _ (b : List ℕ) where
   pub card-tests-decide : DecideAll (cardTests b) (cardRows b)
   card-tests-decide =
       cards-decide b
-      then decide-at-first 14 (λ i. wrongStock (cardAt b i)) (cardCount b) (StockAbove b) (λ i l. stock-above b i) (λ i l. above-stock b i)
+      then decide-at-first 14 (λ i. wrongEntries (cardAt b i)) (cardCount b) (EntryAbove b) (λ i l. entry-above b i) (λ i l. above-entry b i)
       then decide-at-first 15 (λ i. wrongAmount (cardAt b i)) (cardCount b) (NoAmount b) (λ i l. amount-none b i) (λ i l. none-amount b i)
       then tt
 

@@ -33,7 +33,7 @@ pub record Demands : Type 1 where
   pub sourceAgain : SourceAgain
   -- what order and grouping do to a combination
   pub algebra : Algebra
-  -- document 01's sums done by hand; a case for each kind and each range; each refusal; a register and a report byte by byte
+  -- document 01's sums done by hand; a case for each kind and each range; each refusal; a register and a report, and stock cards and amounts, byte by byte
   pub starred : Starred
   pub kinds : Kinds
   pub examples : Examples

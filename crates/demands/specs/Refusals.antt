@@ -143,8 +143,8 @@ abbrev pub NotCards : List ℕ → Type 0
 NotCards b = (length b % 32 ≢ 0) ⊎ (32 * 1024 < length b)
 
 -- 14: "an entry out of range", above 10^10, of card i
-abbrev pub StockAbove : List ℕ → ℕ → Type 0
-StockAbove b i = (10 ^ 10 < received b i) ⊎ (10 ^ 10 < dispatched b i) ⊎ (10 ^ 10 < opening b i) ⊎ (10 ^ 10 < closing b i)
+abbrev pub EntryAbove : List ℕ → ℕ → Type 0
+EntryAbove b i = (10 ^ 10 < received b i) ⊎ (10 ^ 10 < dispatched b i) ⊎ (10 ^ 10 < opening b i) ⊎ (10 ^ 10 < closing b i)
 
 -- 15: "an amount below zero or above 10^10", of card i: less comes in than goes out, or more than 10^10 more does
 abbrev pub NoAmount : List ℕ → ℕ → Type 0
@@ -156,7 +156,7 @@ NoAmount b i =
 abbrev pub cardRows : List ℕ → List Row
 cardRows b =
     at 14 0 (NotCards b)
-    ∷ atSmallest (cardsIn b) (withNumber 14 (StockAbove b))
+    ∷ atSmallest (cardsIn b) (withNumber 14 (EntryAbove b))
     ∷ atSmallest (cardsIn b) (withNumber 15 (NoAmount b))
     ∷ []
 

@@ -21,11 +21,11 @@ use Rattle.basis.proofs.Bytes.{length-packed, read-inside}
 use Rattle.basis.proofs.Counting.{sum-alike}
 use Rattle.basis.proofs.Lists.{counted}
 use Rattle.basis.proofs.First.{first-misses, first-hits, first-is}
-use Rattle.meaning.specs.Cards.{cardLength, mostCards, cardCount, cardAt, wrongAmount, cardsTest, stockTest, amountTest, cardTests, amountsOf, amountLength, amountBytes}
+use Rattle.meaning.specs.Cards.{cardLength, mostCards, cardCount, cardAt, wrongAmount, cardsTest, entryTest, amountTest, cardTests, amountsOf, amountLength, amountBytes}
 use Rattle.meaning.specs.Calls.{roomTest, written, amounts}
 use Rattle.meaning.proofs.Calls.{refused-gives, short-gives, made-gives}
 use Rattle.meaning.proofs.Cards.{length-amountsOf}
-use Rattle.input_stock_cards.specs.Worked.{Whole, stockAt, wrong, wrongAt, WorkedOut}
+use Rattle.input_stock_cards.specs.Worked.{Whole, entryWrongAt, wrong, wrongAt, WorkedOut}
 
 -- 14, by length
 module _ (b : List ℕ) {v : Verdict} (e : v ≡ cardsTest b) where
@@ -43,30 +43,30 @@ module _ (b : List ℕ) (h : Whole b) where
   length-passes = rw (eq-eqb (length b % cardLength) 0 (h .whole), le-ltb mostCards (cardCount b) (h .few))
 
   -- 14, at the first card with an entry out of range
-  pub stock-refused : {stock : ℕ} → stock ≡ first (stockAt b) (cardCount b) → stock < cardCount b → Refuses 14 stock ≡ firstRefusal (cardTests b)
+  pub entry-refused : {entry : ℕ} → entry ≡ first (entryWrongAt b) (cardCount b) → entry < cardCount b → Refuses 14 entry ≡ firstRefusal (cardTests b)
   unfolding firstRefusal refuseAtFirst
-  stock-refused {stock} e l = rw (length-passes, ← e, lt-ltb stock (cardCount b) l)
+  entry-refused {entry} e l = rw (length-passes, ← e, lt-ltb entry (cardCount b) l)
 
   -- 15, where no entry is: at the first card that is wrong
-  pub amount-refused : {stock place : ℕ} → stock ≡ first (stockAt b) (cardCount b) → cardCount b ≤ stock → place ≡ first (wrongAt b) (cardCount b)
+  pub amount-refused : {entry place : ℕ} → entry ≡ first (entryWrongAt b) (cardCount b) → cardCount b ≤ entry → place ≡ first (wrongAt b) (cardCount b)
       → first (wrongAt b) (cardCount b) < cardCount b → Refuses 15 place ≡ firstRefusal (cardTests b)
   unfolding firstRefusal refuseAtFirst wrong
-  amount-refused {stock} {place} e m f some =
+  amount-refused {entry} {place} e m f some =
       let n = cardCount b in
       let l : place < n = rw f some in
-      let right : NoneBelow (stockAt b) n = λ k q. first-misses (stockAt b) n k (omega (arith, e)) in
-      let stocks : stockTest b ≡ Passes = passed-at-all 14 (stockAt b) n .1 right in
+      let right : NoneBelow (entryWrongAt b) n = λ k q. first-misses (entryWrongAt b) n k (omega (arith, e)) in
+      let entries : entryTest b ≡ Passes = passed-at-all 14 (entryWrongAt b) n .1 right in
       let hit : wrongAmount (cardAt b place) ≡ true = rw (right place l) at (rw (← f) at (first-hits (wrongAt b) n) l) in
       let is : first (λ i. wrongAmount (cardAt b i)) n ≡ place =
-      first-is (λ i. wrongAmount (cardAt b i)) n place l (λ k q. or-false (stockAt b k) (wrongAmount (cardAt b k)) (first-misses (wrongAt b) n k (omega (arith, f))) .1) hit in
-      rw (length-passes, stocks, is, lt-ltb place n l)
+      first-is (λ i. wrongAmount (cardAt b i)) n place l (λ k q. or-false (entryWrongAt b k) (wrongAmount (cardAt b k)) (first-misses (wrongAt b) n k (omega (arith, f))) .1) hit in
+      rw (length-passes, entries, is, lt-ltb place n l)
 
   -- a wrong card is refused
   refused-some : first (wrongAt b) (cardCount b) < cardCount b → (n : ℕ) × (p : ℕ) × (firstRefusal (cardTests b) ≡ Refuses n p)
-  refused-some l = by (decLt (first (stockAt b) (cardCount b)) (cardCount b))
+  refused-some l = by (decLt (first (entryWrongAt b) (cardCount b)) (cardCount b))
     where
-      by : Dec (first (stockAt b) (cardCount b) < cardCount b) → (n : ℕ) × (p : ℕ) × (firstRefusal (cardTests b) ≡ Refuses n p)
-      by (yes q) = (14, first (stockAt b) (cardCount b), sym (stock-refused refl q))
+      by : Dec (first (entryWrongAt b) (cardCount b) < cardCount b) → (n : ℕ) × (p : ℕ) × (firstRefusal (cardTests b) ≡ Refuses n p)
+      by (yes q) = (14, first (entryWrongAt b) (cardCount b), sym (entry-refused refl q))
       by (no q) = (15, first (wrongAt b) (cardCount b), sym (amount-refused refl (omega arith) refl l))
 
   -- no card is wrong
@@ -74,9 +74,9 @@ module _ (b : List ℕ) (h : Whole b) where
   unfolding firstRefusal wrong
   all-pass right =
       let n = cardCount b in
-      let stocks : stockTest b ≡ Passes = passed-at-all 14 (stockAt b) n .1 (λ k q. or-false (stockAt b k) (wrongAmount (cardAt b k)) (right k q) .0) in
-      let consumed : amountTest b ≡ Passes = passed-at-all 15 (λ i. wrongAmount (cardAt b i)) n .1 (λ k q. or-false (stockAt b k) (wrongAmount (cardAt b k)) (right k q) .1) in
-      rw (length-passes, stocks, consumed)
+      let entries : entryTest b ≡ Passes = passed-at-all 14 (entryWrongAt b) n .1 (λ k q. or-false (entryWrongAt b k) (wrongAmount (cardAt b k)) (right k q) .0) in
+      let consumed : amountTest b ≡ Passes = passed-at-all 15 (λ i. wrongAmount (cardAt b i)) n .1 (λ k q. or-false (entryWrongAt b k) (wrongAmount (cardAt b k)) (right k q) .1) in
+      rw (length-passes, entries, consumed)
 
 -- numbers as amounts are written
 abbrev eights : List ℕ → List ℕ
@@ -102,8 +102,8 @@ module _ (ns buffer : List ℕ) where
 
 -- the cards are worked out
 module _ (b : List ℕ) {before after : List ℕ} {right : Bool} (h : Whole b) (w : WorkedOut b before right after) where
-  pub worked-count : mostCards ≤ length before → cardCount b ≡ length (take (cardCount b) after)
-  worked-count l = counted (cardCount b) after (omega (arith, h .few, w .kept))
+  pub worked-count : cardCount b ≤ length before → cardCount b ≡ length (take (cardCount b) after)
+  worked-count l = counted (cardCount b) after (omega (arith, w .kept))
 
   -- one of them is wrong
   pub some-wrong : not right ≡ true → first (wrongAt b) (cardCount b) < cardCount b

@@ -11,24 +11,24 @@ use lib.Bits.{bitOr}
 use lib.Dec.{ltb}
 use Rattle.basis.proofs.Bools.{or-false}
 use Rattle.meaning.specs.Methods.{mostQuantity}
-use Rattle.meaning.specs.Cards.{Card, cardLength, cardAt, comesIn, goesOut, amountOf, mostStock, wrongStock, wrongAmount}
+use Rattle.meaning.specs.Cards.{Card, cardLength, cardAt, comesIn, goesOut, amountOf, mostEntry, wrongEntries, wrongAmount}
 use Rattle.fields.specs.Fields.{Field}
 use Rattle.input_stock_cards.specs.Worked.{wrong, Tells, WorkedCard}
 use Rattle.input_stock_cards.proofs.Bits.{joined-below}
 
 -- what is said of a card that is right
 record Right (c : Card) : Type 0 where
-  received : c .received ≤ mostStock
-  dispatched : c .dispatched ≤ mostStock
-  opening : c .opening ≤ mostStock
-  closing : c .closing ≤ mostStock
+  received : c .received ≤ mostEntry
+  dispatched : c .dispatched ≤ mostEntry
+  opening : c .opening ≤ mostEntry
+  closing : c .closing ≤ mostEntry
   notBelow : goesOut c ≤ comesIn c
   notAbove : amountOf c ≤ mostQuantity
 
 right-card : (c : Card) → wrong c ≡ false → Right c
-unfolding wrong wrongStock wrongAmount
+unfolding wrong wrongEntries wrongAmount
 right-card c e =
-    let above : ℕ → Bool = ltb mostStock in
+    let above : ℕ → Bool = ltb mostEntry in
     let r = above (c .received) in
     let d = above (c .dispatched) in
     let o = above (c .opening) in
@@ -38,22 +38,22 @@ right-card c e =
     let two = or-false r d (three .0) in
     let amount = or-false (ltb (comesIn c) (goesOut c)) (ltb mostQuantity (amountOf c)) (both .1) in
     record {
-      received = ltb-false mostStock (c .received) (two .0);
-      dispatched = ltb-false mostStock (c .dispatched) (two .1);
-      opening = ltb-false mostStock (c .opening) (three .1);
-      closing = ltb-false mostStock (c .closing) (four .1);
+      received = ltb-false mostEntry (c .received) (two .0);
+      dispatched = ltb-false mostEntry (c .dispatched) (two .1);
+      opening = ltb-false mostEntry (c .opening) (three .1);
+      closing = ltb-false mostEntry (c .closing) (four .1);
       notBelow = ltb-false (comesIn c) (goesOut c) (amount .0);
       notAbove = ltb-false mostQuantity (amountOf c) (amount .1);
     }
 
 card-right : (c : Card) → Right c → wrong c ≡ false
-unfolding wrong wrongStock wrongAmount
+unfolding wrong wrongEntries wrongAmount
 card-right c h =
     rw (
-      le-ltb mostStock (c .received) (h .received),
-      le-ltb mostStock (c .dispatched) (h .dispatched),
-      le-ltb mostStock (c .opening) (h .opening),
-      le-ltb mostStock (c .closing) (h .closing),
+      le-ltb mostEntry (c .received) (h .received),
+      le-ltb mostEntry (c .dispatched) (h .dispatched),
+      le-ltb mostEntry (c .opening) (h .opening),
+      le-ltb mostEntry (c .closing) (h .closing),
       le-ltb (comesIn c) (goesOut c) (h .notBelow),
       le-ltb mostQuantity (amountOf c) (h .notAbove),
     )
@@ -64,12 +64,12 @@ module _ (c : Card) {comes goes a : ℕ} (x : comes ≡ (c .received + c .openin
   amount-exact : Right c → a ≡ amountOf c
   amount-exact h = omega (arith, x, y, z, f .fits, h .received, h .dispatched, h .opening, h .closing, h .notBelow)
 
-  in-range : c .received ≤ mostStock → c .dispatched ≤ mostStock → c .opening ≤ mostStock → c .closing ≤ mostStock → a ≤ mostStock → Right c
+  in-range : c .received ≤ mostEntry → c .dispatched ≤ mostEntry → c .opening ≤ mostEntry → c .closing ≤ mostEntry → a ≤ mostEntry → Right c
   in-range r d o k l =
       record { received = r; dispatched = d; opening = o; closing = k; notBelow = omega (arith, x, y, z); notAbove = omega (arith, x, y, z) }
 
-  card-told : {m n p q s : ℕ} → Tells (c .received ≤ mostStock) m → Tells (c .dispatched ≤ mostStock) n → Tells (c .opening ≤ mostStock) p → Tells (c .closing ≤ mostStock) q
-      → Tells (a ≤ mostStock) s → WorkedCard c a (bitOr (bitOr (bitOr (bitOr m n) p) q) s)
+  card-told : {m n p q s : ℕ} → Tells (c .received ≤ mostEntry) m → Tells (c .dispatched ≤ mostEntry) n → Tells (c .opening ≤ mostEntry) p → Tells (c .closing ≤ mostEntry) q
+      → Tells (a ≤ mostEntry) s → WorkedCard c a (bitOr (bitOr (bitOr (bitOr m n) p) q) s)
   card-told {m} {n} {p} {q} {s} tr td to tk ta = record { tells = (λ l. card-right c (right l), λ e. below (right-card c e)); is = λ e. amount-exact (right-card c e) }
     where
       right : bitOr (bitOr (bitOr (bitOr m n) p) q) s < 2 ^ 34 → Right c
@@ -90,12 +90,12 @@ module _ (c : Card) {comes goes a : ℕ} (x : comes ≡ (c .received + c .openin
 -- the entries as they were read
 module _ (b : List ℕ) (i : ℕ) {r d o k : ℕ} (fr : Field 8 b (cardLength * i) r) (fd : Field 8 b (cardLength * i + 8) d) (fo : Field 8 b (cardLength * i + 16) o)
     (fk : Field 8 b (cardLength * i + 24) k) where
-  pub stock-judged : ltb mostStock r || ltb mostStock d || ltb mostStock o || ltb mostStock k ≡ wrongStock (cardAt b i)
-  unfolding wrongStock cardAt
-  stock-judged = rw (fr .is, fd .is, fo .is, fk .is)
+  pub entries-judged : ltb mostEntry r || ltb mostEntry d || ltb mostEntry o || ltb mostEntry k ≡ wrongEntries (cardAt b i)
+  unfolding wrongEntries cardAt
+  entries-judged = rw (fr .is, fd .is, fo .is, fk .is)
 
-  pub card-worked : {comes goes a m n p q s : ℕ} → comes ≡ (r + o) % 2 ^ 64 → goes ≡ (d + k) % 2 ^ 64 → (a + goes) % 2 ^ 64 ≡ comes → Fits w64 a → Tells (r ≤ mostStock) m
-      → Tells (d ≤ mostStock) n → Tells (o ≤ mostStock) p → Tells (k ≤ mostStock) q → Tells (a ≤ mostStock) s
+  pub card-worked : {comes goes a m n p q s : ℕ} → comes ≡ (r + o) % 2 ^ 64 → goes ≡ (d + k) % 2 ^ 64 → (a + goes) % 2 ^ 64 ≡ comes → Fits w64 a → Tells (r ≤ mostEntry) m
+      → Tells (d ≤ mostEntry) n → Tells (o ≤ mostEntry) p → Tells (k ≤ mostEntry) q → Tells (a ≤ mostEntry) s
       → WorkedCard (cardAt b i) a (bitOr (bitOr (bitOr (bitOr m n) p) q) s)
   unfolding cardAt
   card-worked x y z f tr td to tk ta =

@@ -19,18 +19,18 @@ use Rattle.basis.proofs.First.{first-misses}
 use Rattle.basis.proofs.Bytes.{length-bytesOf, length-packed, splice-none, written-one, written-then}
 use Rattle.basis.proofs.Counting.{sum-alike}
 use Rattle.basis.proofs.Scans.{Scanning, scan-found, scan-more}
-use Rattle.meaning.specs.Cards.{Card, cardCount, cardAt, amountOf, wrongStock, amountsOf, amountLength}
+use Rattle.meaning.specs.Cards.{Card, cardCount, cardAt, amountOf, wrongEntries, amountsOf, amountLength}
 use Rattle.meaning.proofs.Cards.{length-amountsOf, amount-at}
 use Rattle.fields.proofs.Laws.{Writing, writing-none, writing-then, writing-all}
-use Rattle.input_stock_cards.specs.Worked.{stockAt, wrong, wrongAt, WorkedCard, WorkedOut}
+use Rattle.input_stock_cards.specs.Worked.{entryWrongAt, wrong, wrongAt, WorkedCard, WorkedOut}
 use Rattle.input_stock_cards.proofs.Bits.{joined-below}
 
 -- the cards before i have their entries in range
 abbrev pub Searching : List ℕ → ℕ → Type 0
-Searching b i = Scanning (stockAt b) (cardCount b) i
+Searching b i = Scanning (entryWrongAt b) (cardCount b) i
 
-module _ (b : List ℕ) {i : ℕ} {w : Bool} (s : Searching b i) (l : i < cardCount b) (e : w ≡ wrongStock (cardAt b i)) where
-  pub search-found : w ≡ true → i ≡ first (stockAt b) (cardCount b)
+module _ (b : List ℕ) {i : ℕ} {w : Bool} (s : Searching b i) (l : i < cardCount b) (e : w ≡ wrongEntries (cardAt b i)) where
+  pub search-found : w ≡ true → i ≡ first (entryWrongAt b) (cardCount b)
   search-found t = scan-found s l (sym e ∙ t)
 
   pub search-more : w ≡ false → Searching b (i + 1)

@@ -7,7 +7,7 @@ use Prim.Native.Nat.{ℕ, _%_, _^_, _≤_, _<_}
 use lib.ListN.{length}
 use Rattle.basis.specs.Bytes.{Written}
 use Rattle.basis.specs.First.{first, NoneBelow}
-use Rattle.meaning.specs.Cards.{Card, cardLength, mostCards, cardCount, cardAt, amountOf, wrongStock, wrongAmount, amountsOf}
+use Rattle.meaning.specs.Cards.{Card, cardLength, mostCards, cardCount, cardAt, amountOf, wrongEntries, wrongAmount, amountsOf}
 
 -- 14 has nothing to say of the length
 pub record Whole (b : List ℕ) : Type 0 where
@@ -15,11 +15,11 @@ pub record Whole (b : List ℕ) : Type 0 where
   pub few : cardCount b ≤ mostCards
 
 -- an entry of card i is out of range; card i is wrong in one way or the other
-abbrev pub stockAt : List ℕ → ℕ → Bool
-stockAt b i = wrongStock (cardAt b i)
+abbrev pub entryWrongAt : List ℕ → ℕ → Bool
+entryWrongAt b i = wrongEntries (cardAt b i)
 
 unfoldable pub wrong : Card → Bool
-wrong c = wrongStock c || wrongAmount c
+wrong c = wrongEntries c || wrongAmount c
 
 abbrev pub wrongAt : List ℕ → ℕ → Bool
 wrongAt b i = wrong (cardAt b i)

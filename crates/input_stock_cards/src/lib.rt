@@ -6,11 +6,11 @@ ghost use lib.ListN.{length, replicate};
 ghost use Rattle.basis.specs.Answers.{firstRefusal, Gives};
 ghost use Rattle.basis.specs.Bytes.{packed, Written};
 ghost use Rattle.basis.specs.First.{first};
-ghost use Rattle.meaning.specs.Cards.{cardCount, cardAt, mostStock, wrongStock, cardsTest, cardTests, amountLength};
+ghost use Rattle.meaning.specs.Cards.{cardCount, cardAt, mostEntry, wrongEntries, cardsTest, cardTests, amountLength};
 ghost use Rattle.meaning.specs.Calls.{written};
 ghost use Rattle.meaning.specs.Calls.{amounts as Calls·amounts};
 ghost use Rattle.fields.specs.Fields.{Field};
-ghost use Rattle.input_stock_cards.specs.Worked.{Whole, stockAt, wrongAt, Tells, WorkedCard, WorkedOut};
+ghost use Rattle.input_stock_cards.specs.Worked.{Whole, entryWrongAt, wrongAt, Tells, WorkedCard, WorkedOut};
 use answer::answer_of;
 use basis::Answer;
 use basis::Verdict;
@@ -26,6 +26,11 @@ const CARD_LENGTH: usize = 32;
 
 // "Up to 1,024 cards"
 const MOST_CARDS: usize = 1024;
+
+// Cards whose amounts have rooms of their own, each room eight times the one before.
+const FEW_CARDS: usize = 16;
+
+const SOME_CARDS: usize = 128;
 
 pub const LONGEST_CARDS: usize = CARD_LENGTH * MOST_CARDS;
 
@@ -59,7 +64,7 @@ fn entry_at(cards: &[u8], at: usize) -> u64
 // Bits that are below LIMIT where a number is at most MOST. A loop joins them by `|` and takes many numbers at a time, as it would not with a
 // comparison for each.
 fn bits_of(number: u64) -> u64
-    ensures { λ r. ⌜ Tells (number ≤ mostStock) r ⌝ }
+    ensures { λ r. ⌜ Tells (number ≤ mostEntry) r ⌝ }
 {
     number | std::num::wrapping_add_u64(number, LACKING)
 }
@@ -104,9 +109,9 @@ fn work_out(cards: &[u8], amounts: &mut [u64]) -> bool
 }
 
 // "an entry out of range"
-fn is_stock_wrong(cards: &[u8], i: usize) -> bool
+fn is_entry_wrong(cards: &[u8], i: usize) -> bool
     requires { ⌜ i < cardCount (now cards) ⌝ }
-    ensures { λ r. ⌜ r ≡ wrongStock (cardAt (now (cards .entry)) i) ⌝ }
+    ensures { λ r. ⌜ r ≡ wrongEntries (cardAt (now (cards .entry)) i) ⌝ }
 {
     let at = CARD_LENGTH * i;
     let received = entry_at(cards, at);
@@ -117,13 +122,13 @@ fn is_stock_wrong(cards: &[u8], i: usize) -> bool
 }
 
 // The first card with an entry out of range, or how many cards there are.
-fn first_wrong_stock(cards: &[u8]) -> usize
-    ensures { λ r. ⌜ r ≡ first (stockAt (now (cards .entry))) (cardCount (now (cards .entry))) ⌝ }
+fn first_wrong_entry(cards: &[u8]) -> usize
+    ensures { λ r. ⌜ r ≡ first (entryWrongAt (now (cards .entry))) (cardCount (now (cards .entry))) ⌝ }
 {
     let n = cards.len() / CARD_LENGTH;
     let mut i: usize = 0;
     while i < n {
-        let wrong = is_stock_wrong(cards, i);
+        let wrong = is_entry_wrong(cards, i);
         if wrong {
             return i;
         }
@@ -154,11 +159,11 @@ fn refusal(cards: &[u8]) -> Verdict
     ensures { λ r. ⌜ r ≡ firstRefusal (cardTests (now (cards .entry))) ⌝ }
 {
     let n = cards.len() / CARD_LENGTH;
-    let stock = first_wrong_stock(cards);
-    if stock < n {
+    let entry = first_wrong_entry(cards);
+    if entry < n {
         return Verdict::Refuses {
             number: 14,
-            place: stock as u64,
+            place: entry as u64,
         };
     }
     Verdict::Refuses {
@@ -193,18 +198,56 @@ fn write_amounts(worked: &[u64], amounts: &mut [u8]) -> Answer
     answer::accepted(needed as u64)
 }
 
-// Whole cards, at most 1,024.
+// Whole cards, for whose amounts there is room.
+fn answer_in(cards: &[u8], worked: &mut [u64], amounts: &mut [u8]) -> Answer
+    requires { ⌜ Whole (now cards) × (cardCount (now cards) ≤ length (now worked)) ⌝ }
+    ensures { λ r. ⌜ Gives (Calls·amounts (now (cards .entry)) (now (amounts .entry))) r (now (amounts .exit)) ⌝ }
+{
+    let n = cards.len() / CARD_LENGTH;
+    let right = work_out(cards, worked);
+    if !right {
+        return answer_of(refusal(cards), 0);
+    }
+    write_amounts(&worked[..n], amounts)
+}
+
+// Few cards would pay for clearing the room of many: it takes seven times as long as one card does.
+fn answer_few(cards: &[u8], amounts: &mut [u8]) -> Answer
+    requires { ⌜ Whole (now cards) × (cardCount (now cards) ≤ 16) ⌝ }
+    ensures { λ r. ⌜ Gives (Calls·amounts (now (cards .entry)) (now (amounts .entry))) r (now (amounts .exit)) ⌝ }
+{
+    let mut worked = [0u64; FEW_CARDS];
+    answer_in(cards, &mut worked, amounts)
+}
+
+fn answer_some(cards: &[u8], amounts: &mut [u8]) -> Answer
+    requires { ⌜ Whole (now cards) × (cardCount (now cards) ≤ 128) ⌝ }
+    ensures { λ r. ⌜ Gives (Calls·amounts (now (cards .entry)) (now (amounts .entry))) r (now (amounts .exit)) ⌝ }
+{
+    let mut worked = [0u64; SOME_CARDS];
+    answer_in(cards, &mut worked, amounts)
+}
+
+fn answer_many(cards: &[u8], amounts: &mut [u8]) -> Answer
+    requires { ⌜ Whole (now cards) ⌝ }
+    ensures { λ r. ⌜ Gives (Calls·amounts (now (cards .entry)) (now (amounts .entry))) r (now (amounts .exit)) ⌝ }
+{
+    let mut worked = [0u64; MOST_CARDS];
+    answer_in(cards, &mut worked, amounts)
+}
+
 fn answer_cards(cards: &[u8], amounts: &mut [u8]) -> Answer
     requires { ⌜ Whole (now cards) ⌝ }
     ensures { λ r. ⌜ Gives (Calls·amounts (now (cards .entry)) (now (amounts .entry))) r (now (amounts .exit)) ⌝ }
 {
     let n = cards.len() / CARD_LENGTH;
-    let mut worked = [0u64; MOST_CARDS];
-    let right = work_out(cards, &mut worked);
-    if !right {
-        return answer_of(refusal(cards), 0);
+    if n <= FEW_CARDS {
+        return answer_few(cards, amounts);
     }
-    write_amounts(&worked[..n], amounts)
+    if n <= SOME_CARDS {
+        return answer_some(cards, amounts);
+    }
+    answer_many(cards, amounts)
 }
 
 // "14 for a broken length or too many cards, place 0"

@@ -1,5 +1,5 @@
--- A register and its report, and stock cards and their amounts, byte by byte, with other bytes in every field: no two fields may change places.
--- Assumes nothing.
+-- A register and its report, and stock cards and their amounts, byte by byte, with other bytes in every field: no two fields may change places, but for
+-- two of a card that count alike. Assumes nothing.
 use mathlib.Core.List.{List, [], _∷_, _++_}
 use mathlib.Core.Path.{_≡_}
 use Prim.Native.Nat.{ℕ}

@@ -44,12 +44,12 @@ abbrev pub amountOf : Card → ℕ
 amountOf c = comesIn c - goesOut c
 
 -- "thousandths of the card's unit, each at most 10^10"
-abbrev pub mostStock : ℕ
-mostStock = 10 ^ 10
+abbrev pub mostEntry : ℕ
+mostEntry = 10 ^ 10
 
 -- "an entry out of range"
-unfoldable pub wrongStock : Card → Bool
-wrongStock c = ltb mostStock (c .received) || ltb mostStock (c .dispatched) || ltb mostStock (c .opening) || ltb mostStock (c .closing)
+unfoldable pub wrongEntries : Card → Bool
+wrongEntries c = ltb mostEntry (c .received) || ltb mostEntry (c .dispatched) || ltb mostEntry (c .opening) || ltb mostEntry (c .closing)
 
 -- "an amount below zero or above 10^10", which could not "become" a quantity of a line
 unfoldable pub wrongAmount : Card → Bool
@@ -60,14 +60,14 @@ abbrev pub cardsTest : List ℕ → Verdict
 cardsTest b = refuseIf (not (eqb (length b % cardLength) 0) || ltb mostCards (cardCount b)) 14 0
 
 -- "then 14 for an entry out of range, then 15 for an amount below zero or above 10^10, each at the first such card"
-abbrev pub stockTest : List ℕ → Verdict
-stockTest b = refuseAtFirst 14 (λ i. wrongStock (cardAt b i)) (cardCount b)
+abbrev pub entryTest : List ℕ → Verdict
+entryTest b = refuseAtFirst 14 (λ i. wrongEntries (cardAt b i)) (cardCount b)
 
 abbrev pub amountTest : List ℕ → Verdict
 amountTest b = refuseAtFirst 15 (λ i. wrongAmount (cardAt b i)) (cardCount b)
 
 abbrev pub cardTests : List ℕ → List Verdict
-cardTests b = cardsTest b ∷ stockTest b ∷ amountTest b ∷ []
+cardTests b = cardsTest b ∷ entryTest b ∷ amountTest b ∷ []
 
 -- "amounts written in card order, 8 bytes each"
 unfoldable pub amountsOf : List ℕ → List ℕ

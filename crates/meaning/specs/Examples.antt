@@ -1,5 +1,5 @@
 -- Cases beside the starred sums: document 01's own text of a report, each number of the table of refusals with its place, and the ends of what
--- stock cards may be. Assumes nothing.
+-- the entries and amounts of stock cards may be. Assumes nothing.
 use mathlib.Core.List.{List, [], _∷_, map}
 use mathlib.Core.Path.{_≡_}
 use Prim.Native.Nat.{ℕ}

@@ -77,8 +77,8 @@ pub fn name_of_two<'a>(plant: &'a [u8], contractor: &'a [u8], number: u32) -> Op
 }
 
 /// Works out the amounts of stock cards, and answers the length of what was written. A card has received, dispatched,
-/// opening and closing stock; its amount is the quantity of a line. All are little-endian numbers of 8 bytes, in
-/// thousandths of the card's unit.
+/// opening and closing stock; its amount, the quantity of a line, is received less dispatched, plus opening, less
+/// closing. All are little-endian numbers of 8 bytes, in thousandths of the card's unit.
 pub fn amounts(cards: &[u8], amounts: &mut [u8]) -> Result<usize, Refusal> {
     raw::amounts(cards, amounts).result()
 }

@@ -41,11 +41,11 @@ impl fmt::Display for Refusal {
             11 => write!(f, "source number {place} stands in both reports"),
             12 => write!(f, "{place} entries are more than the 512 of a report"),
             13 => write!(f, "the report has no source number {place}"),
-            14 => write!(
+            14 if place == 0 => write!(
                 f,
-                "card {place}, counted from 0, has an entry above 10^10; \
-                 or, with place 0, the bytes are not whole cards or more than 1,024 cards"
+                "card 0, counted from 0, has an entry above 10^10, or the bytes are not whole cards or more than 1,024 cards"
             ),
+            14 => write!(f, "card {place}, counted from 0, has an entry above 10^10"),
             15 => write!(f, "card {place}, counted from 0, has an amount below zero or above 10^10"),
             number => write!(f, "refused with number {number}, place {place}"),
         }

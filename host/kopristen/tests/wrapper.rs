@@ -121,6 +121,16 @@ fn each_refusal_has_its_own_sentence() {
     assert!(Refusal { number: LAST_REFUSAL + 1, place: 3 }.to_string().starts_with("refused"));
 }
 
+/// 14 is about the length only where its place is 0.
+#[test]
+fn the_length_of_cards_is_said_at_place_0() {
+    for place in 0..3 {
+        let sentence = Refusal { number: 14, place }.to_string();
+        assert!(sentence.starts_with(&format!("card {place}, counted from 0, has an entry above 10^10")), "{sentence}");
+        assert_eq!(sentence.contains("whole cards"), place == 0, "{sentence}");
+    }
+}
+
 /// The place of 3 to 7, 14 and 15 is the index of a source, of a line or of a card, and of no other refusal.
 #[test]
 fn an_index_is_said_to_be_one() {

@@ -1,5 +1,5 @@
 use borrow.Author.Needs.{needs}
-use Rattle.input_stock_cards.proofs.Answered.{stock-refused, amount-refused}
+use Rattle.input_stock_cards.proofs.Answered.{entry-refused, amount-refused}
 use Rattle.input_stock_cards.proofs.refusal.Statement.{statement}
 use Rattle.input_stock_cards.proofs.refusal.Tie as tie
 
@@ -8,6 +8,6 @@ refusal-spec =
     tie.close
     (tie.spec
     (λ c κs. search needs)
-    (λ c. search stock-refused)
+    (λ c. search entry-refused)
     (λ c κs. search needs)
     (λ c. search amount-refused))

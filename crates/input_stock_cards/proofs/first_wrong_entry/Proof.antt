@@ -2,8 +2,8 @@ use borrow.Author.Needs.{needs}
 use Prim.Native.Nat.{_-_}
 use Rattle.basis.proofs.Scans.{scan-none, scan-all}
 use Rattle.input_stock_cards.proofs.Pass.{Searching, search-found, search-more}
-use Rattle.input_stock_cards.proofs.first_wrong_stock.Statement.{statement}
-use Rattle.input_stock_cards.proofs.first_wrong_stock.Tie as tie
+use Rattle.input_stock_cards.proofs.first_wrong_entry.Statement.{statement}
+use Rattle.input_stock_cards.proofs.first_wrong_entry.Tie as tie
 
 abbrev Inv-loop : tie.InvT-loop
 Inv-loop cards n i₀ i = Searching cards i
@@ -11,8 +11,8 @@ Inv-loop cards n i₀ i = Searching cards i
 abbrev μ-loop : tie.MeasureT-loop
 μ-loop cards n i₀ i = n - i
 
-pub first-wrong-stock-spec : {M : Type 1} → statement M
-first-wrong-stock-spec =
+pub first-wrong-entry-spec : {M : Type 1} → statement M
+first-wrong-entry-spec =
     tie.close
     (tie.spec
     Inv-loop
