@@ -7,24 +7,23 @@ use native.Mathlib.Decide.{decLt}
 use native.Mathlib.Omega.{arith}
 use borrow.Author.Tests.{eq-eqb, lt-ltb, le-ltb, eqb-true, ltb-false, not-true, not-false}
 use lib.Dec.{ltb}
-use lib.ListN.{length, take, replicate, length-take, length-replicate}
+use lib.ListN.{length, take, length-take}
 use lib.Seq.{take-length}
 use Rattle.basis.specs.declared.Answer.{Answer}
 use Rattle.basis.specs.declared.Verdict.{Verdict}
 use Rattle.basis.specs.declared.Verdict.the-variants.{Passes, Refuses}
 use Rattle.basis.specs.Answers.{refuseIf, refuseAtFirst, firstRefusal, answer, Gives}
-use Rattle.basis.specs.Bytes.{packed, Written}
+use Rattle.basis.specs.Bytes.{Written}
 use Rattle.basis.specs.First.{first, NoneBelow}
 use Rattle.basis.proofs.Answers.{passed-then, passed-at-all, passed-if, room-there}
 use Rattle.basis.proofs.Bools.{or-false}
-use Rattle.basis.proofs.Bytes.{length-packed, read-inside}
-use Rattle.basis.proofs.Counting.{sum-alike}
+use Rattle.basis.proofs.Bytes.{read-inside}
 use Rattle.basis.proofs.Lists.{counted}
 use Rattle.basis.proofs.First.{first-misses, first-hits, first-is}
 use Rattle.meaning.specs.Cards.{cardLength, mostCards, cardCount, cardAt, wrongAmount, cardsTest, entryTest, amountTest, cardTests, amountsOf, amountLength, amountBytes}
 use Rattle.meaning.specs.Calls.{roomTest, written, amounts}
 use Rattle.meaning.proofs.Calls.{refused-gives, short-gives, made-gives}
-use Rattle.meaning.proofs.Cards.{length-amountsOf}
+use Rattle.meaning.proofs.Cards.{length-amountsOf, inEights, length-inEights}
 use Rattle.input_stock_cards.specs.Worked.{Whole, entryWrongAt, wrong, wrongAt, WorkedOut}
 
 -- 14, by length
@@ -78,27 +77,20 @@ module _ (b : List ℕ) (h : Whole b) where
       let consumed : amountTest b ≡ Passes = passed-at-all 15 (λ i. wrongAmount (cardAt b i)) n .1 (λ k q. or-false (entryWrongAt b k) (wrongAmount (cardAt b k)) (right k q) .1) in
       rw (length-passes, entries, consumed)
 
--- numbers as amounts are written
-abbrev eights : List ℕ → List ℕ
-eights ns = packed (replicate (length ns) amountLength) ns
-
-length-eights : (ns : List ℕ) → length (eights ns) ≡ amountLength * length ns
-length-eights ns = length-packed (replicate (length ns) amountLength) ns (length-replicate (length ns) amountLength) ∙ sum-alike amountLength (length ns)
-
 -- 8, with no other test
 module _ (ns buffer : List ℕ) where
   pub room-short : {v : Verdict} {n p : ℕ} {a : Answer} → v ≡ refuseIf (ltb (length buffer) (amountLength * length ns)) 8 (amountLength * length ns) → v ≡ Refuses n p
-      → a ≡ answer v 0 → Gives (written [] (eights ns) buffer) a buffer
+      → a ≡ answer v 0 → Gives (written [] (inEights ns) buffer) a buffer
   unfolding firstRefusal
-  room-short e t f = short-gives [] (eights ns) buffer refl (length-eights ns) e t f
+  room-short e t f = short-gives [] (inEights ns) buffer refl (length-inEights ns) e t f
 
   pub room-enough : {v : Verdict} → v ≡ refuseIf (ltb (length buffer) (amountLength * length ns)) 8 (amountLength * length ns) → v ≡ Passes
       → amountLength * length ns ≤ length buffer
   room-enough e t = room-there (length buffer) (amountLength * length ns) e t
 
-  pub all-written : {left : List ℕ} {a : Answer} → Written buffer 0 (eights ns) left → a ≡ answer Passes (amountLength * length ns) → Gives (written [] (eights ns) buffer) a left
+  pub all-written : {left : List ℕ} {a : Answer} → Written buffer 0 (inEights ns) left → a ≡ answer Passes (amountLength * length ns) → Gives (written [] (inEights ns) buffer) a left
   unfolding firstRefusal
-  all-written w f = made-gives [] (eights ns) buffer refl (length-eights ns) w f
+  all-written w f = made-gives [] (inEights ns) buffer refl (length-inEights ns) w f
 
 -- the cards are worked out
 module _ (b : List ℕ) {before after : List ℕ} {right : Bool} (h : Whole b) (w : WorkedOut b before right after) where
@@ -116,14 +108,14 @@ module _ (b : List ℕ) {before after : List ℕ} {right : Bool} (h : Whole b) (
       refused-gives (cardTests b) (amountBytes b) buffer (sym e) (e ∙ r .2) g
 
   -- none is, and the amounts stand at the front
-  pub cards-written : (buffer : List ℕ) {a : Answer} {left : List ℕ} → not right ≡ false → Gives (written [] (eights (take (cardCount b) after)) buffer) a left
+  pub cards-written : (buffer : List ℕ) {a : Answer} {left : List ℕ} → not right ≡ false → Gives (written [] (inEights (take (cardCount b) after)) buffer) a left
       → Gives (amounts b buffer) a left
   unfolding amounts amountBytes written firstRefusal
   cards-written buffer {a} {left} f g =
       let t = not-false right f in
       let n = length-amountsOf b in
       let front : take (cardCount b) after ≡ amountsOf b = rw n at (read-inside (w .amounts t) 0 (length (amountsOf b)) (omega arith) ∙ take-length (amountsOf b)) in
-      let made : eights (take (cardCount b) after) ≡ amountBytes b = rw (front, n) in
+      let made : inEights (take (cardCount b) after) ≡ amountBytes b = rw (front, n) in
       let passed = passed-then (cardTests b) (roomTest (amountBytes b) buffer ∷ []) (all-pass b h (w .none t)) in
       rw passed (rw made at g)
 

@@ -10,17 +10,16 @@ use native.Mathlib.Omega.{arith}
 use borrow.Author.Tests.{ltb-true, ltb-false, not-true, not-false}
 use lib.Bits.{bitOr}
 use lib.Dec.{ltb}
-use lib.ListN.{length, getD, take, drop, set, replicate, length-set, length-replicate}
+use lib.ListN.{length, getD, take, drop, set, replicate, length-set}
 use lib.Seq.{take-suc, take-all, drop-cons, length-take-le}
 use Rattle.basis.specs.Bytes.{bytesOf, packed, Written}
 use Rattle.basis.specs.First.{first, NoneBelow}
 use Rattle.basis.proofs.Bools.{clash, not-both}
 use Rattle.basis.proofs.First.{first-misses}
-use Rattle.basis.proofs.Bytes.{length-bytesOf, length-packed, splice-none, written-one, written-then}
-use Rattle.basis.proofs.Counting.{sum-alike}
+use Rattle.basis.proofs.Bytes.{length-bytesOf, splice-none, written-one, written-then}
 use Rattle.basis.proofs.Scans.{Scanning, scan-found, scan-more}
 use Rattle.meaning.specs.Cards.{Card, cardCount, cardAt, amountOf, wrongEntries, amountsOf, amountLength}
-use Rattle.meaning.proofs.Cards.{length-amountsOf, amount-at}
+use Rattle.meaning.proofs.Cards.{length-amountsOf, amount-at, inEights, length-inEights}
 use Rattle.fields.proofs.Laws.{Writing, writing-none, writing-then, writing-all}
 use Rattle.input_stock_cards.specs.Worked.{entryWrongAt, wrong, wrongAt, WorkedCard, WorkedOut}
 use Rattle.input_stock_cards.proofs.Bits.{joined-below}
@@ -114,19 +113,15 @@ module _ {b before after : List ℕ} {bits i : ℕ} (w : Working b before after 
       wrong-some k q t (yes p) = p
       wrong-some k q t (no p) = absurd (clash t (first-misses (wrongAt b) (cardCount b) k (omega (arith, w .low))))
 
-abbrev eights : ℕ → List ℕ
-eights n = replicate n amountLength
-
 -- i of the amounts are written, and the others are left
 pub record Putting (ns before after : List ℕ) (i : ℕ) : Type 0 where
   pub low : i ≤ length ns
-  pub left : Writing before 0 (packed (eights (length ns)) ns) after (amountLength * i) (packed (eights (length ns - i)) (drop i ns))
+  pub left : Writing before 0 (inEights ns) after (amountLength * i) (packed (replicate (length ns - i) amountLength) (drop i ns))
 
 pub putting-none : (ns before : List ℕ) → amountLength * length ns ≤ length before → Putting ns before before 0
 putting-none ns before room =
-    let size : length (packed (eights (length ns)) ns) ≡ amountLength * length ns =
-    length-packed (eights (length ns)) ns (length-replicate (length ns) amountLength) ∙ sum-alike amountLength (length ns) in
-    record { low = omega arith; left = rw (sub-zero (length ns)) (writing-none before 0 (packed (eights (length ns)) ns) (omega arith)) }
+    let size = length-inEights ns in
+    record { low = omega arith; left = rw (sub-zero (length ns)) (writing-none before 0 (inEights ns) (omega arith)) }
 
 module _ {ns before after : List ℕ} {i : ℕ} (p : Putting ns before after i) where
   pub putting-more : {next : List ℕ} → i < length ns → Written after (amountLength * i) (bytesOf amountLength (getD ns i 0)) next → Putting ns before next (i + 1)
@@ -137,6 +132,6 @@ module _ {ns before after : List ℕ} {i : ℕ} (p : Putting ns before after i) 
       let at : amountLength * i + length (bytesOf amountLength (getD ns i 0)) ≡ amountLength * (i + 1) = rw length-bytesOf (omega arith) in
       record { low = omega arith; left = rw at at (writing-then (rw (n, d) at (p .left)) v) }
 
-  pub putting-all : length ns ≤ i → Written before 0 (packed (eights (length ns)) ns) after
+  pub putting-all : length ns ≤ i → Written before 0 (inEights ns) after
   unfolding packed
   putting-all l = let z : length ns - i ≡ 0 = omega arith in writing-all (rw z at (p .left))

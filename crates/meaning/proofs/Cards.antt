@@ -3,6 +3,7 @@ use mathlib.Core.List.{List}
 use mathlib.Core.Path.{_≡_, _∙_}
 use Prim.Native.Nat.{ℕ, _*_, _<_}
 use lib.ListN.{length, getD, replicate, length-replicate}
+use Rattle.basis.specs.Bytes.{packed}
 use Rattle.basis.proofs.Bytes.{length-packed}
 use Rattle.basis.proofs.Counting.{length-counted, at-counted, sum-alike}
 use Rattle.meaning.specs.Cards.{cardCount, cardAt, amountOf, amountsOf, amountLength, amountBytes}
@@ -15,9 +16,13 @@ pub amount-at : (b : List ℕ) (i : ℕ) → i < cardCount b → getD (amountsOf
 unfolding amountsOf
 amount-at b i l = at-counted (λ i. amountOf (cardAt b i)) 0 (cardCount b) i l
 
+-- numbers as amounts are written
+abbrev pub inEights : List ℕ → List ℕ
+inEights ns = packed (replicate (length ns) amountLength) ns
+
+pub length-inEights : (ns : List ℕ) → length (inEights ns) ≡ amountLength * length ns
+length-inEights ns = length-packed (replicate (length ns) amountLength) ns (length-replicate (length ns) amountLength) ∙ sum-alike amountLength (length ns)
+
 pub length-amounts : (b : List ℕ) → length (amountBytes b) ≡ amountLength * cardCount b
 unfolding amountBytes
-length-amounts b =
-    let n = cardCount b in
-    let e : length (replicate n amountLength) ≡ length (amountsOf b) = rw (length-amountsOf b) (length-replicate n amountLength) in
-    length-packed (replicate n amountLength) (amountsOf b) e ∙ sum-alike amountLength n
+length-amounts b = rw (length-amountsOf b) at (length-inEights (amountsOf b))
