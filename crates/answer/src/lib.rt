@@ -1,4 +1,6 @@
 // Document 01, "Refusal numbers": answers and verdicts made, each in the words of the meaning.
+#![tactic(auto)]
+
 ghost use Rattle.std.specs.Prelude.{◌≡◌, ltb};
 ghost use Rattle.basis.specs.declared.Verdict.TheVariants.{Passes, Refuses};
 ghost use Rattle.basis.specs.Answers.{refuse_if};

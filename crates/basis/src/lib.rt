@@ -1,3 +1,5 @@
+#![tactic(auto)]
+
 // What a call answers (document 01, "Refusal numbers"): acceptance is number 0, place 0 and a length; a refusal has its
 // number, its place and length 0.
 #[repr(C)]

@@ -1,4 +1,6 @@
 // Document 01: calculation, from the bytes of a register to those of its report.
+#![tactic(auto)]
+
 ghost use Rattle.std.specs.Prelude.{◌*◌, ◌≤◌, length};
 ghost use Rattle.basis.specs.Answers.{Gives};
 ghost use Rattle.meaning.specs.Register.{most_sources};

@@ -1,4 +1,6 @@
 // Tests 5 to 7 over the sources of a register that 1 to 4 have passed, and what each source comes to.
+#![tactic(auto)]
+
 ghost use Rattle.std.specs.Prelude.{◌≡◌, ◌+◌, ◌*◌, ◌≤◌, ◌<◌, length};
 ghost use Rattle.basis.specs.Bytes.{Written};
 ghost use Rattle.meaning.specs.Register.{source_count};

@@ -1,4 +1,6 @@
 // Document 01, "The report": the report of a register whose tests 1 to 7 have passed, or 8 where it has no room.
+#![tactic(auto)]
+
 ghost use Rattle.std.specs.Prelude.{map, ◌≡◌, ◌+◌, ◌≤◌, ◌<◌, length, get_or};
 ghost use Rattle.basis.specs.declared.Verdict.TheVariants.{Passes};
 ghost use Rattle.basis.specs.Answers.{first_refusal, Gives};

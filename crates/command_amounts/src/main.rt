@@ -1,4 +1,6 @@
 // `amounts CARDS RESULT`: the amounts of stock cards, made in a file and said as decimals.
+#![tactic(auto)]
+
 ghost use Rattle.std.specs.Prelude.{◌*◌, ◌/◌, ◌≤◌, length};
 ghost use Rattle.basis.specs.Answers.{Gives};
 ghost use Rattle.meaning.specs.Cards.{amount_length};

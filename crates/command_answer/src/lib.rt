@@ -1,4 +1,6 @@
 // What a program says of an answer: the text of a report, the decimals of amounts, or the line of an acceptance or a refusal.
+#![tactic(auto)]
+
 ghost use Rattle.std.specs.Prelude.{◌*◌, ◌/◌, ◌≤◌, length};
 ghost use Rattle.meaning.specs.Text.{refused_line, accepted_line};
 ghost use Rattle.meaning.specs.Cards.{amount_length};

@@ -1,4 +1,6 @@
 // `calculate REGISTER REPORT`: the report of a register, made in a file.
+#![tactic(auto)]
+
 use command_files::{Input, REGISTER_ROOM, REPORT_ROOM};
 
 fn calculate(register: &[u8]) {

@@ -1,4 +1,6 @@
 // `combine FIRST SECOND REPORT`: the report of all entries of two reports, made in a file.
+#![tactic(auto)]
+
 use command_files::{Input, REPORT_ROOM};
 
 fn combine(first: &[u8], second: &[u8]) {

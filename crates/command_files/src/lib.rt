@@ -1,4 +1,6 @@
 // Whole files in, result files out, and the words of a command line: all that the programs have to do with the system.
+#![tactic(auto)]
+
 mod place;
 mod result;
 

@@ -1,5 +1,7 @@
 // `name NUMBER REGISTER [REGISTER]`: the name of a source, in a plant's register or in either of the plant's and its contractor's. An empty
 // line says that there is none.
+#![tactic(auto)]
+
 use command_files::{Input, REGISTER_ROOM};
 use decimal_read::Numeral;
 

@@ -1,4 +1,6 @@
 // `remove REPORT NUMBER RESULT`: a report without the entry of a number, made in a file.
+#![tactic(auto)]
+
 use command_files::{Input, REPORT_ROOM};
 use decimal_read::Numeral;
 

@@ -1,5 +1,7 @@
 // Document 01: "The report program reads a register on standard input". What it writes is the text of the register's report, or the line
 // of a refusal.
+#![tactic(auto)]
+
 ghost use Rattle.std.specs.Prelude.{◌≤◌, length};
 ghost use Rattle.meaning.specs.Programs;
 ghost use Rattle.decimal_write.specs.Digits.{Fronted};

@@ -1,4 +1,6 @@
 // `show REPORT`: the text of a report, or its refusal.
+#![tactic(auto)]
+
 use command_files::{Input, REPORT_ROOM};
 use report_text::TEXT_ROOM;
 

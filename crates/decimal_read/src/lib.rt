@@ -1,4 +1,6 @@
 // A number in decimal, read from a word of plain digits.
+#![tactic(auto)]
+
 ghost use Rattle.std.specs.Prelude.{◌≡◌};
 ghost use Rattle.decimal_read.specs.Numerals.{numeral_in};
 

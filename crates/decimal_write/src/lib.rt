@@ -1,4 +1,6 @@
 // "numbers are plain decimals": numbers written in decimal, each with the byte behind it.
+#![tactic(auto)]
+
 ghost use Rattle.std.specs.Prelude.{◌≡◌, ◌+◌, ◌*◌, ◌/◌, ◌%◌, ◌≤◌, ◌<◌, length, get_or};
 ghost use Rattle.basis.specs.Bytes.{number_of};
 ghost use Rattle.meaning.specs.Text.{decimal};

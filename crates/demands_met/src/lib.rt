@@ -1,5 +1,7 @@
 // The exported calls and the returned names once more, each with what the first two demands say of it. A promise is the meaning of its call, the
 // demands are theorems about that meaning, and here the two meet: what a lent slice holds is bytes, which is all that the theorems ask for.
+#![tactic(auto)]
+
 ghost use Rattle.demands.specs.Calls.{Calculates, Combines, Removes, Checks, Prints, WorksOut, Finds, FindsOfTwo, HandsBack, HandsBackEither};
 
 use basis::Answer;

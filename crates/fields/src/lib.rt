@@ -1,4 +1,6 @@
 // Numbers in bytes at a place of a slice: the fields of registers and reports.
+#![tactic(auto)]
+
 ghost use Rattle.std.specs.Prelude.{◌≡◌, ◌+◌, ◌<◌, ◌≤◌, length};
 ghost use Rattle.basis.specs.Bytes.{bytes_of, starts_with, Written};
 ghost use Rattle.fields.specs.Fields.{Field};

@@ -1,5 +1,7 @@
 // Hash table with linear probing: each number takes the first free slot from its home slot on, and one that meets itself there stands twice.
 // For speed alone: the promise is that it tells whether a number stood in the table before, or leaves it open, so skip it on a first reading.
+#![tactic(auto)]
+
 ghost use Rattle.std.specs.Prelude.{cond, ◌≡◌, length, eqb};
 ghost use Rattle.hash_repeats.specs.declared.Standing.TheVariants.{Twice, Open};
 ghost use Rattle.hash_repeats.specs.Repeats.{slot_count, Home, Ended, Inserted};

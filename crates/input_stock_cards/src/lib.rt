@@ -1,4 +1,6 @@
 // Document 02, "Amounts from stock cards": consumption by formula 1 of source 000, card by card.
+#![tactic(auto)]
+
 ghost use Rattle.std.specs.Prelude.{◌≡◌, ◌+◌, ◌*◌, ◌<◌, ◌≤◌, [], length, replicate};
 ghost use Rattle.basis.specs.Answers.{first_refusal, Gives};
 ghost use Rattle.basis.specs.Bytes.{packed, Written};

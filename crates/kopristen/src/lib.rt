@@ -1,4 +1,6 @@
 // Every call of documents 01 and 02, for C and Rust. Each takes any bytes, and its promise is the meaning of the call.
+#![tactic(auto)]
+
 ghost use Rattle.std.specs.Prelude.{◌≡◌};
 ghost use Rattle.basis.specs.Answers.{Gives};
 ghost use Rattle.meaning.specs.Calls.{calculated, combined, removed, checked, text, amounts, found, found_of_two};

@@ -1,4 +1,6 @@
 // Document 01, "Methods and their lines": a line read to its kind.
+#![tactic(auto)]
+
 ghost use Rattle.std.specs.Prelude.{true, ◌≡◌};
 ghost use Rattle.meaning.specs.declared.Decoded.TheVariants.{Bad};
 ghost use Rattle.meaning.specs.Methods.{listed, carbonates, acids, balanced, most_content, in_range, given, fuel, flare, metals, petrochemical, cement, nitric_acid, by_method, decoded};

@@ -1,4 +1,6 @@
 // Document 01, "Methods and their lines": a kind as what it adds to or takes from a gas.
+#![tactic(auto)]
+
 ghost use Rattle.std.specs.Prelude.{◌≡◌, ◌≤◌};
 ghost use Rattle.meaning.specs.Methods.{whole};
 ghost use Rattle.line_kind.specs.Ranges.{KindFits, carbon_factor};

@@ -1,4 +1,6 @@
 // Exact amounts in 64 bits, and a source's equivalent with its limit (document 01, "Rounding and equivalence").
+#![tactic(auto)]
+
 ghost use Rattle.std.specs.Prelude.{◌≡◌, false, ◌+◌, ◌*◌, ◌≤◌, ◌<◌, ltb, get_or};
 ghost use Rattle.meaning.specs.Masses.{warming, gas_count, most_factors, most_factor, rounded};
 ghost use Rattle.mass_exact.specs.Amounts.{word, gram, value, scale, Ranged, Room, Added, Subtracted};

@@ -1,4 +1,6 @@
 // Document 01, "Rounding and equivalence": the masses and the equivalent of a source from the sums of its lines, or what it is refused for.
+#![tactic(auto)]
+
 ghost use Rattle.std.specs.Prelude.{[], ◌∷◌, ◌++◌, ◌≡◌, length};
 ghost use Rattle.meaning.specs.Masses.{gas_count};
 ghost use Rattle.mass_sums.specs.Sums.{Roomy};

@@ -1,4 +1,6 @@
 // Document 01, "Rounding and equivalence": the lines of a source, read one behind another up to the first that is bad, and their exact sums by gas.
+#![tactic(auto)]
+
 ghost use Rattle.std.specs.Prelude.{◌≡◌, ◌+◌, ◌≤◌, length, drop};
 ghost use Rattle.meaning.specs.Register.{line_length, line_of};
 ghost use Rattle.meaning.specs.Methods.{most_quantity};

@@ -1,4 +1,5 @@
 // The plain types of document 01. What they mean stands in specs/.
+#![tactic(auto)]
 
 // A line of the register as its 20 bytes state it, with the letters of document 01.
 #[derive(Drop)]

@@ -1,4 +1,6 @@
 // Whether tests 1 to 4 accept a register, for whoever has no use for the order of its sources.
+#![tactic(auto)]
+
 mod numbers;
 
 ghost use Rattle.std.specs.Prelude.{◌≡◌, ◌≤◌};

@@ -1,4 +1,6 @@
 // Document 01, "The register": where its parts and its header's fields stand, what the header states, and test 2, which asks it field by field.
+#![tactic(auto)]
+
 ghost use Rattle.std.specs.Prelude.{◌≡◌, ◌≤◌, length, drop};
 ghost use Rattle.basis.specs.declared.Verdict.TheVariants.{Refuses};
 ghost use Rattle.basis.specs.Answers.{first_refusal};

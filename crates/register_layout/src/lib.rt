@@ -1,4 +1,6 @@
 // Document 01, "The register": how it is laid out, which its tests 1 to 3 ask, and the fields of a source's entry.
+#![tactic(auto)]
+
 mod entry;
 mod sources;
 

@@ -1,4 +1,6 @@
 // The name of a source, looked up by its number in a register, or in either of two, that tests 1 to 4 accept.
+#![tactic(auto)]
+
 mod look;
 
 ghost use Rattle.std.specs.Prelude.{◌≡◌};

@@ -1,4 +1,6 @@
 // Document 01, "The report": whether a report is well-formed.
+#![tactic(auto)]
+
 ghost use Rattle.std.specs.Prelude.{◌&&◌, not, ◌≡◌, ◌+◌, ◌*◌, ◌≤◌, length, drop};
 ghost use Rattle.basis.specs.Lists.{any, count_up};
 ghost use Rattle.meaning.specs.Register.{most_sources};

@@ -1,4 +1,6 @@
 // Combination of two reports: it tests its input, and writes only where every test has passed.
+#![tactic(auto)]
+
 ghost use Rattle.std.specs.Prelude.{◌≡◌};
 ghost use Rattle.basis.specs.declared.Verdict.TheVariants.{Passes};
 ghost use Rattle.basis.specs.Answers.{first_refusal, Gives};

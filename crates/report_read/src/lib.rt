@@ -1,4 +1,6 @@
 // Document 01, "The report": how it is laid out, and what is read from it. The code has the places and lengths of a report from here alone.
+#![tactic(auto)]
+
 ghost use Rattle.std.specs.Prelude.{◌≡◌, ◌+◌, ◌*◌, ◌≤◌, ◌<◌, length};
 ghost use Rattle.basis.specs.First.{first};
 ghost use Rattle.meaning.specs.Report.{report_length, report_year, entry_count};

@@ -1,4 +1,6 @@
 // Document 01, "The report": the parts of a report written, its header, its entries, an entry carried over.
+#![tactic(auto)]
+
 ghost use Rattle.std.specs.Prelude.{[], ◌∷◌, ◌++◌, ◌≡◌, ◌+◌, ◌*◌, ◌≤◌, ◌<◌, length};
 ghost use Rattle.basis.specs.Bytes.{Written, packed};
 ghost use Rattle.meaning.specs.Register.{most_sources};

@@ -1,5 +1,7 @@
 // Answers the calls of a file, one after another, and writes of each its answer and what its buffer then holds. What it has to write was
 // written by the reference (`host/reference`), whose `cases::file` has the layout of a record and of the output.
+#![tactic(auto)]
+
 ghost use Rattle.std.specs.Prelude.{◌/◌, ◌≤◌, ◌<◌, length};
 
 use basis::Answer;

@@ -5,18 +5,18 @@ use Rattle.decimal_read.proofs.Digits.{Reading, reading}
 use Rattle.decimal_read.proofs.numeral_in.Statement.{statement}
 use Rattle.decimal_read.proofs.numeral_in.Tie as tie
 
-abbrev invariant-loop : tie.invariant-loop
-invariant-loop word n₀ i₀ n i = Reading word n i
+abbrev invariant-loop-i : tie.invariant-loop-i
+invariant-loop-i word n₀ i₀ n i = Reading word n i
 
-abbrev decreases-loop : tie.decreases-loop
-decreases-loop word n₀ i₀ n i = length word - i
+abbrev decreases-loop-i : tie.decreases-loop-i
+decreases-loop-i word n₀ i₀ n i = length word - i
 
 pub numeral_in_spec : {M : Type 1} → statement M
 numeral_in_spec =
     tie.close
     (tie.spec
-    invariant-loop
-    decreases-loop
+    invariant-loop-i
+    decreases-loop-i
     (λ c. search reading)
     (λ c. search reading)
     (λ c. search reading)

@@ -4,18 +4,18 @@ use Rattle.decimal_write.proofs.Digits.{Spelling, digit_put, spelling_none, spel
 use Rattle.decimal_write.proofs.put_digits.Statement.{statement}
 use Rattle.decimal_write.proofs.put_digits.Tie as tie
 
-abbrev invariant-loop : tie.invariant-loop
-invariant-loop buf₀ end n p₀ rest₀ buf p rest = Spelling buf₀ end n buf p rest
+abbrev invariant-loop-rest : tie.invariant-loop-rest
+invariant-loop-rest buf₀ end n p₀ rest₀ buf p rest = Spelling buf₀ end n buf p rest
 
-abbrev decreases-loop : tie.decreases-loop
-decreases-loop buf₀ end n p₀ rest₀ buf p rest = rest
+abbrev decreases-loop-rest : tie.decreases-loop-rest
+decreases-loop-rest buf₀ end n p₀ rest₀ buf p rest = rest
 
 pub put_digits_spec : {M : Type 1} → statement M
 put_digits_spec =
     tie.close
     (tie.spec
-    invariant-loop
-    decreases-loop
+    invariant-loop-rest
+    decreases-loop-rest
     (omega arith)
     (omega arith)
     (omega arith)

@@ -6,18 +6,18 @@ use Rattle.input_stock_cards.proofs.Pass.{wrong-found, wrong_more}
 use Rattle.input_stock_cards.proofs.first_wrong_card.Statement.{statement}
 use Rattle.input_stock_cards.proofs.first_wrong_card.Tie as tie
 
-abbrev invariant-loop : tie.invariant-loop
-invariant-loop cards n i₀ i = Scanning (wrong_at cards) (card_count cards) i
+abbrev invariant-loop-i : tie.invariant-loop-i
+invariant-loop-i cards n i₀ i = Scanning (wrong_at cards) (card_count cards) i
 
-abbrev decreases-loop : tie.decreases-loop
-decreases-loop cards n i₀ i = n - i
+abbrev decreases-loop-i : tie.decreases-loop-i
+decreases-loop-i cards n i₀ i = n - i
 
 pub first_wrong_card_spec : {M : Type 1} → statement M
 first_wrong_card_spec =
     tie.close
     (tie.spec
-    invariant-loop
-    decreases-loop
+    invariant-loop-i
+    decreases-loop-i
     (λ c. search (rules, scan-none))
     (λ c κs. search rules)
     (λ c. search (rules, wrong-found))

@@ -4,18 +4,18 @@ use Rattle.input_stock_cards.proofs.Pass.{Searching, search_found, search_more}
 use Rattle.input_stock_cards.proofs.first_wrong_entry.Statement.{statement}
 use Rattle.input_stock_cards.proofs.first_wrong_entry.Tie as tie
 
-abbrev invariant-loop : tie.invariant-loop
-invariant-loop cards n i₀ i = Searching cards i
+abbrev invariant-loop-i : tie.invariant-loop-i
+invariant-loop-i cards n i₀ i = Searching cards i
 
-abbrev decreases-loop : tie.decreases-loop
-decreases-loop cards n i₀ i = n - i
+abbrev decreases-loop-i : tie.decreases-loop-i
+decreases-loop-i cards n i₀ i = n - i
 
 pub first_wrong_entry_spec : {M : Type 1} → statement M
 first_wrong_entry_spec =
     tie.close
     (tie.spec
-    invariant-loop
-    decreases-loop
+    invariant-loop-i
+    decreases-loop-i
     (λ c. search (rules, scan-none))
     (λ c κs. search rules)
     (λ c. search (rules, search_found))

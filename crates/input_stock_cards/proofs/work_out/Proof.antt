@@ -3,18 +3,18 @@ use Rattle.input_stock_cards.proofs.Pass.{Working, working-none, working_more, w
 use Rattle.input_stock_cards.proofs.work_out.Statement.{statement}
 use Rattle.input_stock_cards.proofs.work_out.Tie as tie
 
-abbrev invariant-loop : tie.invariant-loop
-invariant-loop cards amounts₀ n bits₀ i₀ amounts bits i = Working cards amounts₀ amounts bits i
+abbrev invariant-loop-i : tie.invariant-loop-i
+invariant-loop-i cards amounts₀ n bits₀ i₀ amounts bits i = Working cards amounts₀ amounts bits i
 
-abbrev decreases-loop : tie.decreases-loop
-decreases-loop cards amounts₀ n bits₀ i₀ amounts bits i = n - i
+abbrev decreases-loop-i : tie.decreases-loop-i
+decreases-loop-i cards amounts₀ n bits₀ i₀ amounts bits i = n - i
 
 pub work_out_spec : {M : Type 1} → statement M
 work_out_spec =
     tie.close
     (tie.spec
-    invariant-loop
-    decreases-loop
+    invariant-loop-i
+    decreases-loop-i
     (λ c. search working-none)
     (λ c κs. search rules)
     (λ c. search rules)

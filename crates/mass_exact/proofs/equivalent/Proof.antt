@@ -5,16 +5,16 @@ use Rattle.mass_exact.proofs.Equivalents.{Weighing, weighing_first, weighing_non
 use Rattle.mass_exact.proofs.equivalent.Statement.{statement}
 use Rattle.mass_exact.proofs.equivalent.Tie as tie
 
-abbrev invariant-loop : tie.invariant-loop
-invariant-loop masses sum₀ gas₀ sum gas = Weighing masses sum gas
+abbrev invariant-loop-gas : tie.invariant-loop-gas
+invariant-loop-gas masses sum₀ gas₀ sum gas = Weighing masses sum gas
 
-abbrev decreases-loop : tie.decreases-loop
-decreases-loop masses sum₀ gas₀ sum gas = gas_count - gas
+abbrev decreases-loop-gas : tie.decreases-loop-gas
+decreases-loop-gas masses sum₀ gas₀ sum gas = gas_count - gas
 
 pub equivalent_spec : {M : Type 1} → statement M
 equivalent_spec =
     tie.close
-    (tie.spec invariant-loop decreases-loop (λ c. search weighing_first)
+    (tie.spec invariant-loop-gas decreases-loop-gas (λ c. search weighing_first)
     (search rules) (search rules) (search rules)
     (λ c. search weighing_none) (λ c. search weighing_fits) (λ c. search weighing_sum-fits)
     (search rules) (search rules)

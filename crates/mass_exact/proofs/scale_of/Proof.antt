@@ -7,6 +7,6 @@ pub scale_of_spec : {M : Type 1} → statement M
 scale_of_spec =
     tie.close
     (tie.spec
-    (λ c. rw c.match.keys1)
-    (λ c. rw c.match.keys2)
-    (λ c. let r = c.match.rest in let e : c.before.args.gas ≡ 2 = omega arith in rw e))
+    (λ c. rw c.in-0.is)
+    (λ c. rw c.in-1.is)
+    (λ c. let r = c.in_default.in_default-own.rest in let e : c.before.args.gas ≡ 2 = omega arith in rw e))

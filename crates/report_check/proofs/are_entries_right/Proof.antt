@@ -4,18 +4,18 @@ use Rattle.report_check.proofs.Pass.{Checked, checking}
 use Rattle.report_check.proofs.are_entries_right.Statement.{statement}
 use Rattle.report_check.proofs.are_entries_right.Tie as tie
 
-abbrev invariant-loop : tie.invariant-loop
-invariant-loop report n totals₀ before₀ i₀ totals before i = Checked report n totals before i
+abbrev invariant-loop-i : tie.invariant-loop-i
+invariant-loop-i report n totals₀ before₀ i₀ totals before i = Checked report n totals before i
 
-abbrev decreases-loop : tie.decreases-loop
-decreases-loop report n totals₀ before₀ i₀ totals before i = n - i
+abbrev decreases-loop-i : tie.decreases-loop-i
+decreases-loop-i report n totals₀ before₀ i₀ totals before i = n - i
 
 pub are_entries_right_spec : {M : Type 1} → statement M
 are_entries_right_spec =
     tie.close
     (tie.spec
-    invariant-loop
-    decreases-loop
+    invariant-loop-i
+    decreases-loop-i
     (λ c. search checking)
     (omega arith)
     (omega arith)

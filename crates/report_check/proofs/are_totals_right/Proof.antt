@@ -4,18 +4,18 @@ use Rattle.report_check.proofs.Pass.{Compared, compared_none, comparing}
 use Rattle.report_check.proofs.are_totals_right.Statement.{statement}
 use Rattle.report_check.proofs.are_totals_right.Tie as tie
 
-abbrev invariant-loop : tie.invariant-loop
-invariant-loop report totals figure₀ figure = Compared report figure
+abbrev invariant-loop-figure : tie.invariant-loop-figure
+invariant-loop-figure report totals figure₀ figure = Compared report figure
 
-abbrev decreases-loop : tie.decreases-loop
-decreases-loop report totals figure₀ figure = figure_count - figure
+abbrev decreases-loop-figure : tie.decreases-loop-figure
+decreases-loop-figure report totals figure₀ figure = figure_count - figure
 
 pub are_totals_right_spec : {M : Type 1} → statement M
 are_totals_right_spec =
     tie.close
     (tie.spec
-    invariant-loop
-    decreases-loop
+    invariant-loop-figure
+    decreases-loop-figure
     (λ c. search compared_none)
     (λ c. search comparing)
     (λ c. search comparing)

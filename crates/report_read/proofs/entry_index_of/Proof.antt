@@ -5,18 +5,18 @@ use Rattle.report_read.proofs.Halving.{Halving, halving_none, halving_mid, halvi
 use Rattle.report_read.proofs.entry_index_of.Statement.{statement}
 use Rattle.report_read.proofs.entry_index_of.Tie as tie
 
-abbrev invariant-loop : tie.invariant-loop
-invariant-loop report number n low₀ high₀ low high = Halving report number n low high
+abbrev invariant-loop-low : tie.invariant-loop-low
+invariant-loop-low report number n low₀ high₀ low high = Halving report number n low high
 
-abbrev decreases-loop : tie.decreases-loop
-decreases-loop report number n low₀ high₀ low high = high - low
+abbrev decreases-loop-low : tie.decreases-loop-low
+decreases-loop-low report number n low₀ high₀ low high = high - low
 
 pub entry_index_of_spec : {M : Type 1} → statement M
 entry_index_of_spec =
     tie.close
     (tie.spec
-    invariant-loop
-    decreases-loop
+    invariant-loop-low
+    decreases-loop-low
     (λ c κs. search rules)
     (λ c. search halving_none)
     (omega arith)

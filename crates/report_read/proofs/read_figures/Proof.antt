@@ -4,18 +4,18 @@ use Rattle.report_read.proofs.Filling.{Reading, reading}
 use Rattle.report_read.proofs.read_figures.Statement.{statement}
 use Rattle.report_read.proofs.read_figures.Tie as tie
 
-abbrev invariant-loop : tie.invariant-loop
-invariant-loop s at to₀ k₀ to k = Reading s at to₀ to k
+abbrev invariant-loop-k : tie.invariant-loop-k
+invariant-loop-k s at to₀ k₀ to k = Reading s at to₀ to k
 
-abbrev decreases-loop : tie.decreases-loop
-decreases-loop s at to₀ k₀ to k = length to₀ - k
+abbrev decreases-loop-k : tie.decreases-loop-k
+decreases-loop-k s at to₀ k₀ to k = length to₀ - k
 
 pub read_figures_spec : {M : Type 1} → statement M
 read_figures_spec =
     tie.close
     (tie.spec
-    invariant-loop
-    decreases-loop
+    invariant-loop-k
+    decreases-loop-k
     (λ c. search reading)
     (λ c. search reading)
     (λ c. search reading)

@@ -4,18 +4,18 @@ use Rattle.report_read.proofs.Filling.{Taking, taking}
 use Rattle.report_read.proofs.take_figures.Statement.{statement}
 use Rattle.report_read.proofs.take_figures.Tie as tie
 
-abbrev invariant-loop : tie.invariant-loop
-invariant-loop s at sums₀ k₀ sums k = Taking s at sums₀ sums k
+abbrev invariant-loop-k : tie.invariant-loop-k
+invariant-loop-k s at sums₀ k₀ sums k = Taking s at sums₀ sums k
 
-abbrev decreases-loop : tie.decreases-loop
-decreases-loop s at sums₀ k₀ sums k = length sums₀ - k
+abbrev decreases-loop-k : tie.decreases-loop-k
+decreases-loop-k s at sums₀ k₀ sums k = length sums₀ - k
 
 pub take_figures_spec : {M : Type 1} → statement M
 take_figures_spec =
     tie.close
     (tie.spec
-    invariant-loop
-    decreases-loop
+    invariant-loop-k
+    decreases-loop-k
     (λ c. search taking)
     (λ c. search taking)
     (λ c. search taking)

@@ -5,18 +5,18 @@ use Rattle.register_layout.proofs.sources.Entries.{Looked, look_none, look_more,
 use Rattle.register_layout.proofs.sources.has_bad_byte.Statement.{statement}
 use Rattle.register_layout.proofs.sources.has_bad_byte.Tie as tie
 
-abbrev invariant-loop : tie.invariant-loop
-invariant-loop name bad₀ i₀ bad i = Looked name bad i
+abbrev invariant-loop-i : tie.invariant-loop-i
+invariant-loop-i name bad₀ i₀ bad i = Looked name bad i
 
-abbrev decreases-loop : tie.decreases-loop
-decreases-loop name bad₀ i₀ bad i = length name - i
+abbrev decreases-loop-i : tie.decreases-loop-i
+decreases-loop-i name bad₀ i₀ bad i = length name - i
 
 pub has_bad_byte_spec : {M : Type 1} → statement M
 has_bad_byte_spec =
     tie.close
     (tie.spec
-    invariant-loop
-    decreases-loop
+    invariant-loop-i
+    decreases-loop-i
     (λ c. search look_none)
     (omega arith)
     (omega arith)

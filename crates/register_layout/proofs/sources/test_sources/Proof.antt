@@ -6,18 +6,18 @@ use Rattle.register_layout.proofs.sources.Passing.{Passing, passing_none, passin
 use Rattle.register_layout.proofs.sources.test_sources.Statement.{statement}
 use Rattle.register_layout.proofs.sources.test_sources.Tie as tie
 
-abbrev invariant-loop : tie.invariant-loop
-invariant-loop register n m t spoiled line₀ byte₀ i₀ line byte i = Passing register n i line byte
+abbrev invariant-loop-i : tie.invariant-loop-i
+invariant-loop-i register n m t spoiled line₀ byte₀ i₀ line byte i = Passing register n i line byte
 
-abbrev decreases-loop : tie.decreases-loop
-decreases-loop register n m t spoiled line₀ byte₀ i₀ line byte i = n - i
+abbrev decreases-loop-i : tie.decreases-loop-i
+decreases-loop-i register n m t spoiled line₀ byte₀ i₀ line byte i = n - i
 
 pub test_sources_spec : {M : Type 1} → statement M
 test_sources_spec =
     tie.close
     (tie.spec
-    invariant-loop
-    decreases-loop
+    invariant-loop-i
+    decreases-loop-i
     (omega arith)
     (omega arith)
     (omega arith)
