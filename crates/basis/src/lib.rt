@@ -3,7 +3,7 @@
 // What a call answers (document 01, "Refusal numbers"): acceptance is number 0, place 0 and a length; a refusal has its
 // number, its place and length 0.
 #[repr(C)]
-#[derive(Drop)]
+#[derive(Clone, Copy)]
 pub struct Answer {
     pub number: u32,
     pub place: u64,
@@ -11,7 +11,7 @@ pub struct Answer {
 }
 
 // What a single test of a call finds.
-#[derive(Drop)]
+#[derive(Clone, Copy)]
 pub enum Verdict {
     Passes,
     Refuses { number: u32, place: u64 },

@@ -8,7 +8,7 @@ ghost use Rattle.decimal_read.specs.Numerals.{numeral_in};
 const LARGEST: u64 = 4294967295;
 
 // What a word says where a number is asked for.
-#[derive(Drop)]
+#[derive(Clone, Copy)]
 pub enum Numeral {
     NoNumber,
     Number(u32),

@@ -7,7 +7,7 @@ ghost use Rattle.hash_repeats.specs.declared.Standing.TheVariants.{Twice, Open};
 ghost use Rattle.hash_repeats.specs.Repeats.{slot_count, Home, Ended, Inserted};
 
 // Whether a number stands once so far, or twice. It is left open where too many numbers want the same slots.
-#[derive(Drop)]
+#[derive(Clone, Copy)]
 pub enum Standing {
     Once,
     Twice,

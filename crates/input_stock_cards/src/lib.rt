@@ -47,7 +47,7 @@ const LIMIT: u64 = 17179869184;
 const LACKING: u64 = LIMIT - 1 - MOST;
 
 // What a card comes to, and bits that are below LIMIT where the card is right.
-#[derive(Drop)]
+#[derive(Clone, Copy)]
 struct Worked {
     amount: u64,
     bits: u64,

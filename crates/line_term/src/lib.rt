@@ -10,7 +10,7 @@ use line_kind::WHOLE;
 use meaning::Kind;
 
 // A kind as one product: a line of quantity q adds q * content * factor to the sum of its gas, or takes it from there.
-#[derive(Drop)]
+#[derive(Clone, Copy)]
 pub struct Term {
     pub gas: usize,
     pub takes: bool,

@@ -29,7 +29,7 @@ const WARMING: [u64; GASES] = [1, 25, 298];
 const LIMIT: u64 = 1000000000000000;
 
 // Ten-billionths of a gram, in words.
-#[derive(Drop)]
+#[derive(Clone, Copy)]
 pub struct Amount {
     pub high: u64,
     pub low: u64,
@@ -119,7 +119,7 @@ pub fn round(a: Amount) -> u64
 }
 
 // The equivalent of a source, or that it is above the limit.
-#[derive(Drop)]
+#[derive(Clone, Copy)]
 pub enum Weighed {
     Within(u64),
     Above,

@@ -12,7 +12,7 @@ use mass_exact::{Amount, FIGURES, GASES, Weighed};
 use mass_sums::Sums;
 
 // A source whose lines were read: what they are answered, and where they pass, 6 or 7 for its sums, or 0 with its masses and its equivalent.
-#[derive(Drop)]
+#[derive(Clone, Copy)]
 pub struct JudgedSource {
     pub verdict: Verdict,
     pub fault: u32,

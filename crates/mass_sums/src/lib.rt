@@ -14,14 +14,14 @@ use meaning::{Decoded, Line, RawLine};
 use register_header::LINE_LENGTH;
 
 // What the lines read so far come to: what they add, by gas, and what they take from CO2.
-#[derive(Drop)]
+#[derive(Clone, Copy)]
 pub struct Sums {
     pub added: [Amount; GASES],
     pub taken: Amount,
 }
 
 // What the lines of a source are answered, and what those before the first bad one come to.
-#[derive(Drop)]
+#[derive(Clone, Copy)]
 pub struct LinesRead {
     pub verdict: Verdict,
     pub sums: Sums,

@@ -2,7 +2,7 @@
 #![tactic(auto)]
 
 // A line of the register as its 20 bytes state it, with the letters of document 01.
-#[derive(Drop)]
+#[derive(Clone, Copy)]
 pub struct RawLine {
     pub kind: u64,
     pub unit: u64,
@@ -13,7 +13,7 @@ pub struct RawLine {
 }
 
 // An accepted line: its quantity, and its one kind.
-#[derive(Drop)]
+#[derive(Clone, Copy)]
 pub struct Line {
     pub quantity: u64,
     pub kind: Kind,
@@ -21,7 +21,7 @@ pub struct Line {
 
 // The kinds of the method table, each with its own factors. Carbon is a content of carbon, methane one of CH4 and a share one of
 // carbonate, in millionths; the other shares are in ten-thousandths; a factor stands in its table.
-#[derive(Drop)]
+#[derive(Clone, Copy)]
 pub enum Kind {
     Fuel {
         carbon: u64,
@@ -75,7 +75,7 @@ pub enum Kind {
 }
 
 // What decoding a line yields.
-#[derive(Drop)]
+#[derive(Clone, Copy)]
 pub enum Decoded {
     Good(Line),
     Bad,
@@ -83,7 +83,7 @@ pub enum Decoded {
 
 // A part of a register: where it begins, and how long it is.
 #[repr(C)]
-#[derive(Drop)]
+#[derive(Clone, Copy)]
 pub struct Part {
     pub offset: u64,
     pub length: u64,
@@ -91,7 +91,7 @@ pub struct Part {
 
 // A part of one of two registers: 1 is the plant's, 2 its contractor's.
 #[repr(C)]
-#[derive(Drop)]
+#[derive(Clone, Copy)]
 pub struct Found {
     pub which: u32,
     pub offset: u64,

@@ -16,7 +16,7 @@ pub const NOWHERE: Part = Part {
 };
 
 // What looking a number up in one register comes to: whether tests 1 to 4 accept it, whether it then holds the number, and the name.
-#[derive(Drop)]
+#[derive(Clone, Copy)]
 pub struct Sought {
     pub accepted: bool,
     pub held: bool,
