@@ -5,18 +5,18 @@ use Rattle.calculation_write.proofs.Summing.{Adding, adding-none, adding-fits, a
 use Rattle.calculation_write.proofs.add_source.Statement.{statement}
 use Rattle.calculation_write.proofs.add_source.Tie as tie
 
-abbrev invariant-loop : tie.invariant-loop
-invariant-loop totals₀ figures i k₀ totals k = Adding figures i totals₀ totals k
+abbrev invariant-loop-k : tie.invariant-loop-k
+invariant-loop-k totals₀ figures i k₀ totals k = Adding figures i totals₀ totals k
 
-abbrev decreases-loop : tie.decreases-loop
-decreases-loop totals₀ figures i k₀ totals k = figure_count - k
+abbrev decreases-loop-k : tie.decreases-loop-k
+decreases-loop-k totals₀ figures i k₀ totals k = figure_count - k
 
 pub add_source_spec : {M : Type 1} → statement M
 add_source_spec =
     tie.close
     (tie.spec
-    invariant-loop
-    decreases-loop
+    invariant-loop-k
+    decreases-loop-k
     (λ c. search adding-none)
     (λ c. search rules)
     (λ c. search rules)

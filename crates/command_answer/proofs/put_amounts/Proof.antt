@@ -4,18 +4,18 @@ use Rattle.command_answer.proofs.Amounts.{Lined, lined_none, lined_room, lined_m
 use Rattle.command_answer.proofs.put_amounts.Statement.{statement}
 use Rattle.command_answer.proofs.put_amounts.Tie as tie
 
-abbrev invariant-loop : tie.invariant-loop
-invariant-loop amounts output₀ n at₀ i₀ output at i = Lined amounts output₀ output at i
+abbrev invariant-loop-i : tie.invariant-loop-i
+invariant-loop-i amounts output₀ n at₀ i₀ output at i = Lined amounts output₀ output at i
 
-abbrev decreases-loop : tie.decreases-loop
-decreases-loop amounts output₀ n at₀ i₀ output at i = n - i
+abbrev decreases-loop-i : tie.decreases-loop-i
+decreases-loop-i amounts output₀ n at₀ i₀ output at i = n - i
 
 pub put_amounts_spec : {M : Type 1} → statement M
 put_amounts_spec =
     tie.close
     (tie.spec
-    invariant-loop
-    decreases-loop
+    invariant-loop-i
+    decreases-loop-i
     (λ c. search lined_none)
     (λ c. search rules)
     (λ c κs. search rules)

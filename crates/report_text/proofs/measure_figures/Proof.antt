@@ -5,18 +5,18 @@ use Rattle.report_text.proofs.Rows.{Measuring, measuring_none, measuring_more, m
 use Rattle.report_text.proofs.measure_figures.Statement.{statement}
 use Rattle.report_text.proofs.measure_figures.Tie as tie
 
-abbrev invariant-loop : tie.invariant-loop
-invariant-loop report at total₀ k₀ total k = Measuring report at total k
+abbrev invariant-loop-k : tie.invariant-loop-k
+invariant-loop-k report at total₀ k₀ total k = Measuring report at total k
 
-abbrev decreases-loop : tie.decreases-loop
-decreases-loop report at total₀ k₀ total k = figure_count - k
+abbrev decreases-loop-k : tie.decreases-loop-k
+decreases-loop-k report at total₀ k₀ total k = figure_count - k
 
 pub measure_figures_spec : {M : Type 1} → statement M
 measure_figures_spec =
     tie.close
     (tie.spec
-    invariant-loop
-    decreases-loop
+    invariant-loop-k
+    decreases-loop-k
     (λ c. search measuring_none)  -- loop-holds
     (λ c. search rules)  -- mul-u64-at
     (λ c. search rules)  -- add-u64-at

@@ -2,18 +2,18 @@ use Rattle.report_text.proofs.Texts.{Texting, texting}
 use Rattle.report_text.proofs.put_lines.Statement.{statement}
 use Rattle.report_text.proofs.put_lines.Tie as tie
 
-abbrev invariant-loop : tie.invariant-loop
-invariant-loop report buf₀ end i₀ p₀ buf i p = Texting report buf₀ end buf p i
+abbrev invariant-loop-i : tie.invariant-loop-i
+invariant-loop-i report buf₀ end i₀ p₀ buf i p = Texting report buf₀ end buf p i
 
-abbrev decreases-loop : tie.decreases-loop
-decreases-loop report buf₀ end i₀ p₀ buf i p = i
+abbrev decreases-loop-i : tie.decreases-loop-i
+decreases-loop-i report buf₀ end i₀ p₀ buf i p = i
 
 pub put_lines_spec : {M : Type 1} → statement M
 put_lines_spec =
     tie.close
     (tie.spec
-    invariant-loop
-    decreases-loop
+    invariant-loop-i
+    decreases-loop-i
     (λ c κs. search texting)
     (λ c. search texting)
     (λ c. search texting)

@@ -9,6 +9,6 @@ put_text_spec =
     (tie.spec
     (λ c κs. (search rules, search (rules, lines-room)))
     (λ c κs. (search rules, search (rules, totals-room)))
-    (λ c κs. (search rules, front-room _ _ _ c.before.before.before.before.before.before.before.before.before.before.before.requires c.before.before.before.before.before.before.before.put-lines.ensures c.before.before.before.put-figure-fields.ensures))
+    (λ c κs. (search rules, front-room _ _ _ c.before.before.before.before.before.before.before.before.before.before.before.requires c.before.before.before.before.before.before.before.put_lines-p.ensures c.before.before.before.put_figure_fields.ensures))
     (search rules)
-    (λ c. text-written _ _ _ c.before.before.before.before.before.before.before.before.before.before.before.before.before.before.requires c.before.before.before.before.before.before.before.before.before.before.put-lines.ensures c.before.before.before.before.before.before.put-figure-fields.ensures c.before.before.put_front.ensures))
+    (λ c. text-written _ _ _ c.before.before.before.before.before.before.before.before.before.before.before.before.before.before.requires c.before.before.before.before.before.before.before.before.before.before.put_lines-p.ensures c.before.before.before.before.before.before.put_figure_fields.ensures c.before.before.put_front.ensures))

@@ -5,18 +5,18 @@ use Rattle.register_accept.proofs.numbers.Differing.{Numbering, number-none, num
 use Rattle.register_accept.proofs.numbers.standing_in.Statement.{statement}
 use Rattle.register_accept.proofs.numbers.standing_in.Tie as tie
 
-abbrev invariant-loop : tie.invariant-loop
-invariant-loop register slots₀ n i₀ slots i = Numbering register slots n i
+abbrev invariant-loop-i : tie.invariant-loop-i
+invariant-loop-i register slots₀ n i₀ slots i = Numbering register slots n i
 
-abbrev decreases-loop : tie.decreases-loop
-decreases-loop register slots₀ n i₀ slots i = n - i
+abbrev decreases-loop-i : tie.decreases-loop-i
+decreases-loop-i register slots₀ n i₀ slots i = n - i
 
 pub standing_in_spec : {M : Type 1} → statement M
 standing_in_spec =
     tie.close
     (tie.spec
-    invariant-loop
-    decreases-loop
+    invariant-loop-i
+    decreases-loop-i
     (λ c κs. omega arith)
     (λ c. search number-none)
     (λ c κs. search number-entry)
@@ -26,11 +26,11 @@ standing_in_spec =
     (λ c. omega arith)
     (λ c. omega arith)
     (λ c. let call = c.before.before.before.before in
-    number_more call.before.before.before.before.loop.invariant (omega arith) call.before.before.source-number.ensures (rw c.enum_told.given.1 at call.insert.ensures))
+    number_more call.before.before.before.before.loop.invariant (omega arith) call.before.before.source-number.ensures (rw c.enum_told-1.given.1 at call.insert.ensures))
     (λ c. omega arith)
     (λ c. search rules)
     (λ c. let call = c.before.before.before.before in
-    number_met call.before.before.before.before.loop.invariant (omega arith) call.before.before.source-number.ensures (rw c.enum-told2.given.1 at call.insert.ensures).0)
+    number_met call.before.before.before.before.loop.invariant (omega arith) call.before.before.source-number.ensures (rw c.enum_told-in-Twice-1.given.1 at call.insert.ensures).0)
     (λ c. omega arith)
     (λ c. search rules)
     (λ c. tt)
