@@ -11,5 +11,5 @@ decode_spec =
     (tie.spec
     (λ c κs. search rules)
     (λ c κs. search (rules, ranged))
-    (λ c. (rw (c.before.before.before.requires, ← c.before.before.is_in_range.ensures, c.before.if1.true) c.decode-by-method.ensures.0, c.decode-by-method.ensures.1))
-    (λ c. (rw (c.before.before.requires, ← c.before.is_in_range.ensures, c.if1.false), search rules)))
+    (λ c. (rw (c.before.before.before.requires, ← c.before.before.is_in_range-sound.ensures, c.before.if-sound.true) c.decode_by_method.ensures.0, c.decode_by_method.ensures.1))
+    (λ c. (rw (c.before.before.requires, ← c.before.is_in_range-sound.ensures, c.if-sound.false), search rules)))

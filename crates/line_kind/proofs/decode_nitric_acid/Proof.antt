@@ -8,4 +8,4 @@ decode_nitric_acid_spec =
     (tie.spec
     (λ c κs. search rules)
     (λ c κs. search rules)
-    (λ c. (rw c.before.acid-factor.ensures.is at c.line-if.ensures.0, c.line-if.ensures.1)))
+    (λ c. (rw c.before.acid_factor-factor.ensures.is at c.line_if.ensures.0, c.line_if.ensures.1)))

@@ -7,4 +7,4 @@ is_in_range_spec =
     tie.close
     (tie.spec
     (λ c κs. search rules)
-    (λ c. rw c.before.before.before.most-content.ensures))
+    (λ c. rw c.before.before.before.most_content-most.ensures))

@@ -6,5 +6,5 @@ pub line_if_spec : {M : Type 1} → statement M
 line_if_spec =
     tie.close
     (tie.spec
-    (λ c. (rw c.if1.true, search rules))
-    (λ c. (rw c.if1.false, search rules)))
+    (λ c. (rw c.if-holds.true, search rules))
+    (λ c. (rw c.if-holds.false, search rules)))

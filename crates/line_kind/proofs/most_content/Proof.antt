@@ -6,5 +6,5 @@ pub most_content_spec : {M : Type 1} → statement M
 most_content_spec =
     tie.close
     (tie.spec
-    (λ c. rw (eq-eqb _ _ c.if1.true))
-    (λ c. rw (ne_eqb _ _ c.if1.false)))
+    (λ c. rw (eq-eqb _ _ c.if-unit-eq1.true))
+    (λ c. rw (ne_eqb _ _ c.if-unit-eq1.false)))

@@ -20,5 +20,5 @@ carry_entries_spec =
     (λ c. search rules)
     (λ c.
     let known = c.before.before.before.before.before.before in
-    let bytes : Bytes known.before.args.from.now = λ k. omega (arith, known.shared-slice-known.given k) in
+    let bytes : Bytes known.before.args.from.now = λ k. omega (arith, known.shared_slice_known-1.given k) in
     search entries_carried))

@@ -26,11 +26,11 @@ standing_in_spec =
     (λ c. omega arith)
     (λ c. omega arith)
     (λ c. let call = c.before.before.before.before in
-    number_more call.before.before.before.before.loop.invariant (omega arith) call.before.before.source-number.ensures (rw c.enum_told-1.given.1 at call.insert.ensures))
+    number_more call.before.before.before.loop-i.invariant (omega arith) call.before.before.source_number-number.ensures (rw c.enum_told-1.given.1 at call.insert.ensures))
     (λ c. omega arith)
     (λ c. search rules)
     (λ c. let call = c.before.before.before.before in
-    number_met call.before.before.before.before.loop.invariant (omega arith) call.before.before.source-number.ensures (rw c.enum_told-in-Twice-1.given.1 at call.insert.ensures).0)
+    number_met call.before.before.before.loop-i.invariant (omega arith) call.before.before.source_number-number.ensures (rw c.enum_told-in-Twice-1.given.1 at call.insert.ensures).0)
     (λ c. omega arith)
     (λ c. search rules)
     (λ c. tt)
