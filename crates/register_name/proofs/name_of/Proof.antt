@@ -8,5 +8,5 @@ name_of_spec =
     tie.close
     (tie.spec
     (λ c κs. tt)
-    (λ c κs. omega (arith, within _ _ c.name-place.ensures))
-    (λ c. rw (← c.before.name-place.ensures) c.part.ensures))
+    (λ c κs. omega (arith, within _ _ c.name_place-name.ensures))
+    (λ c. rw (← c.name_place-name.ensures) c.part.ensures))

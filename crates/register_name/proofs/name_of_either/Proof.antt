@@ -8,6 +8,6 @@ name_of_either_spec =
     (tie.spec
     (λ c κs. tt)
     (λ c κs. search within_plant)
-    (λ c. rw (← c.before.before.before.name-place-of-two.ensures, c.before.if1.true) c.part.ensures)
+    (λ c. rw (← c.name_place_of_two-name.ensures, c.if-in_plant.true) c.part.ensures)
     (λ c κs. search within_contractor)
-    (λ c. rw (← c.before.before.before.name-place-of-two.ensures, c.before.if1.false) c.part2.ensures))
+    (λ c. rw (← c.name_place_of_two-name.ensures, c.if-in_plant.false) c.part-2.ensures))

@@ -12,6 +12,6 @@ combine_spec =
     (λ c. search rules)
     (λ c κs. search rules)
     (λ c. search combination-refused)
-    (λ c κs. combinable _ _ c.before.before.before.test_combination-verdict.ensures c.before.enum_told-1.given.1)
+    (λ c κs. combinable _ _ c.test_combination-verdict.ensures c.in-Passes.is)
     (λ c. search rules)
     (λ c. search rules))

@@ -10,5 +10,5 @@ test_combination_spec =
     (λ c. search testing)
     (λ c. search testing)
     (λ c. search testing)
-    (λ c κs. both_readable _ _ c.before.before.test_forms-forms.ensures c.enum_told-1.given.1)
+    (λ c κs. both_readable _ _ c.test_forms-forms.ensures c.in-Passes.is)
     (λ c. search testing))

@@ -41,7 +41,7 @@ follow_links_spec =
     (λ c. fronting _ _ (omega arith))
     (λ c. omega arith)
     (λ c. omega arith)
-    (λ c. let l = led_within _ _ _ _ _ c.before.before.before.before.before.put-link.ensures c.before.led.given.1 in omega (arith, l))
+    (λ c. let l = led_within _ _ _ _ _ c.put-link.ensures c.led.given.1 in omega (arith, l))
     (λ c. omega arith)
     (λ c. counted _ _ (omega arith))
     (λ c. omega arith)

@@ -17,7 +17,7 @@ put_link_spec =
     (search rules)
     (search rules)
     (λ c. (search led_past, search rules))
-    (λ c κs. omega (arith, text-within _ _ _ c.before.before.text_at.ensures c.before.before.before.before.before.before.requires))
+    (λ c κs. omega (arith, text-within _ _ _ c.text_at.ensures c.requires))
     (search rules)
     (search rules)
     (λ c. (search led_fits, search led_put)))

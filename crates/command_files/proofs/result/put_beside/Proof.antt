@@ -18,4 +18,4 @@ put_beside_spec =
     (λ c. omega arith)
     (λ c. omega arith)
     (λ c. omega arith)
-    (λ c. beside_put _ c.before.before.before.before.before.before.before.before.before.before.before.before.before.before.number-field.ensures c.before.before.before.before.before.before.before.before.before.before.before.before.put-bytes.ensures c.before.before.before.before.before.before.before.put-bytes2.ensures c.before.before.put-bytes3.ensures))
+    (λ c. beside_put _ c.number-field.ensures c.put-bytes.ensures c.put-bytes2.ensures c.put-bytes3.ensures))

@@ -11,6 +11,6 @@ numbers_differ_spec =
     (λ c. omega arith)
     (λ c. omega arith)
     (λ c κs. omega arith)
-    (λ c. rw c.enum_told-1.given.1 at c.before.before.standing.ensures)
-    (λ c. rw c.enum_told-in-Twice-1.given.1 at c.before.before.standing.ensures)
+    (λ c. rw c.in-Once.is at c.standing.ensures)
+    (λ c. rw c.in-Twice.is at c.standing.ensures)
     (λ c. search))

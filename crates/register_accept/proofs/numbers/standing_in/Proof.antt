@@ -25,12 +25,12 @@ standing_in_spec =
     (λ c. omega arith)
     (λ c. omega arith)
     (λ c. omega arith)
-    (λ c. let call = c.before.before.before.before in
-    number_more call.before.before.before.loop-i.invariant (omega arith) call.before.before.source_number-number.ensures (rw c.enum_told-1.given.1 at call.insert.ensures))
+    (λ c. let call = c in
+    number_more call.loop-i.invariant (omega arith) call.source_number-number.ensures (rw c.in-Once.is at call.insert.ensures))
     (λ c. omega arith)
     (λ c. search rules)
-    (λ c. let call = c.before.before.before.before in
-    number_met call.before.before.before.loop-i.invariant (omega arith) call.before.before.source_number-number.ensures (rw c.enum_told-in-Twice-1.given.1 at call.insert.ensures).0)
+    (λ c. let call = c in
+    number_met call.loop-i.invariant (omega arith) call.source_number-number.ensures (rw c.in-Twice.is at call.insert.ensures).0)
     (λ c. omega arith)
     (λ c. search rules)
     (λ c. tt)
