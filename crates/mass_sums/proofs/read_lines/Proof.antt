@@ -28,5 +28,5 @@ read_lines_spec =
     (λ c κs. let f = good-fits c.decode-decoded.ensures.1 c.in-Good.is in (search (rules, roomy-one), f.0, f.1))
     (λ c. omega arith)
     (λ c. omega arith)
-    (λ c. summed_turn c.requires (search rules) (omega arith) c.line_at_lem.ensures c.decode-decoded.ensures c.in-Good.is c.with_line-sums.ensures)
+    (λ c. summed_turn c.requires (search rules) (omega arith) c.line_at-raw.ensures c.decode-decoded.ensures c.in-Good.is c.with_line-sums.ensures)
     (λ c. search reads_all))
