@@ -19,13 +19,18 @@ fn named(folder: OsString) -> PathBuf {
     folder
 }
 
-/// The folder with a copy of the library that `host/library` makes: each run writes that file anew and the gate removes
-/// it, so its sources are watched. All of `crates` is, since a needless run after a must-fail edit costs less than a
-/// list to keep.
+/// The folder with a copy of the library that `host/library` makes: each run writes that file anew, so its sources are
+/// watched, of every crate, since that costs less than a list to keep. What rt keeps beside them, in `out`, is not.
 fn made() -> PathBuf {
     let host = concat!(env!("CARGO_MANIFEST_DIR"), "/..");
-    for source in ["../crates", "../crates.txt", "library"] {
+    for source in ["../crates.txt", "library"] {
         println!("cargo:rerun-if-changed={host}/{source}");
+    }
+    for folder in std::fs::read_dir(format!("{host}/../crates")).expect("crates can be read") {
+        let folder = folder.expect("crates can be read").path();
+        for part in ["src", "specs", "proofs"].map(|part| folder.join(part)).iter().filter(|part| part.exists()) {
+            println!("cargo:rerun-if-changed={}", part.display());
+        }
     }
     let made = Command::new(format!("{host}/library")).output().expect("host/library can be run");
     assert!(made.status.success(), "{}", String::from_utf8_lossy(&made.stderr));
