@@ -18,7 +18,7 @@ use Rattle.meaning.specs.Register.{source_count, line_count, name_bytes, source_
 use Rattle.meaning.specs.Calls.{line_test, fault_of, mass_fault, fault_at, mass_test}
 use Rattle.meaning.proofs.Sources.{Placed as Standing, no_source, length-sources, source-at}
 use Rattle.demands.specs.Valid.{LaidRight}
-use Rattle.demands.specs.Exactly.{at, at_smallest, with_number}
+use Rattle.demands.specs.Exactly.{at_smallest, with_number}
 use Rattle.demands.specs.Refusals.{BadLine, MassFault}
 use Rattle.demands.specs.Table.{FitAll}
 use Rattle.demands.specs.Fields.{method, parameter, line_at as line, lines_of}
