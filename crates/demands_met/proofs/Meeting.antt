@@ -1,5 +1,5 @@
 -- The promises of the exported calls and the demands meet. Assumes nothing.
-use denote.Ref.{Bor, MutBor}
+use denote.Ref.{Bor}
 use mathlib.Core.Bool.{Bool, true, false, cond, not, ◌&&◌}
 use mathlib.Core.List.{List}
 use mathlib.Core.Logic.{◌⊎◌, inl, inr}
@@ -59,7 +59,7 @@ finds_of_two {plant} {contractor} {number} e = subst (FindsOfTwo plant contracto
 part_of_lem : (register r : Bor (List ℕ)) (p : Part) → IsPart register p.offset p.length r → IsPartOf register.now register.ref_ptr p r.now r.ref_ptr
 part_of_lem register r p s = record { holds = s.holds; stands = s.stands }
 
-pub hands_back : (register r : MutBor (List ℕ)) (number : ℕ) → IsName register number r → HandsBack register.now register.ref_ptr number r.now r.ref_ptr
+pub hands_back : (register r : Bor (List ℕ)) (number : ℕ) → IsName register number r → HandsBack register.now register.ref_ptr number r.now r.ref_ptr
 hands_back register r number s =
     let p = found register.now number in
     record { name = p; finds = kept.calls.name register.now number; part = part_of_lem register r p s }

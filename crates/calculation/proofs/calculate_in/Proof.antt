@@ -14,7 +14,7 @@ calculate_in_spec =
     (λ c. search rules)
     (λ c. search rules)
     (λ c. search register-refused)
-    (λ c κs. keyed c.before.before.before.before.before.before.before.before.before.test-register.ensures c.before.before.before.enum_told.given.1 (search rules))
+    (λ c κs. keyed c.test_register-verdict.ensures c.in-Passes.is (search rules))
     (λ c. search rules)
     (λ c. search rules)
     (λ c. search rules)

@@ -10,4 +10,4 @@ judge_entry_spec =
     (search rules)
     (search rules)
     (λ c κs. search (lines-stand, states))
-    (λ c. let h = c.before.before.before.before.requires in comes_at h.0 h.1 (states _ h.2 c.before.before.source-method.ensures c.before.source-parameter.ensures) c.judge-source.ensures))
+    (λ c. let h = c.requires in comes_at h.0 h.1 (states _ h.2 c.source_method-method.ensures c.source_parameter-parameter.ensures) c.judge_source.ensures))

@@ -7,19 +7,19 @@ use Rattle.calculation_judge.proofs.Pass.{Passing, begins-first, begins_next, en
 use Rattle.calculation_judge.proofs.judge_sources.Statement.{statement}
 use Rattle.calculation_judge.proofs.judge_sources.Tie as tie
 
-abbrev invariant-loop : tie.invariant-loop
-invariant-loop register kept₀ n base first₀ waiting₀ i₀ kept first waiting i =
+abbrev invariant-loop-i : tie.invariant-loop-i
+invariant-loop-i register kept₀ n base first₀ waiting₀ i₀ kept first waiting i =
     Passing register kept₀ waiting kept i × (n ≡ source_count register) × (base ≡ lines_at (source_count register)) × (first ≡ line_start register i)
 
-abbrev decreases-loop : tie.decreases-loop
-decreases-loop register kept₀ n base first₀ waiting₀ i₀ kept first waiting i = n - i
+abbrev decreases-loop-i : tie.decreases-loop-i
+decreases-loop-i register kept₀ n base first₀ waiting₀ i₀ kept first waiting i = n - i
 
 pub judge_sources_spec : {M : Type 1} → statement M
 judge_sources_spec =
     tie.close
     (tie.spec
-    invariant-loop
-    decreases-loop
+    invariant-loop-i
+    decreases-loop-i
     (λ c κs. search rules)
     (λ c κs. search rules)
     (λ c. (search passing, search passing, search passing, begins-first _))
@@ -29,13 +29,13 @@ judge_sources_spec =
     (λ c. search rules)
     (λ c. search rules)
     (λ c. search passing)
-    (λ c. passing_bad c.before.before.before.before.before.before.before.before.before.before.requires.0 c.before.before.before.before.before.loop.invariant.0 (omega arith) c.before.before.judge-entry.ensures c.enum-told2.given.1)
+    (λ c. passing_bad c.requires.0 c.loop-i.invariant.0 (omega arith) c.judge_entry-source.ensures c.in_default.is)
     (λ c. omega arith)
     (λ c. search (rules, passing))
     (λ c κs. search rules)
     (λ c κs. search rules)
     (λ c. omega arith)
     (λ c. omega arith)
-    (λ c. (passing_more c.before.before.before.before.before.before.before.before.before.before.before.before.before.before.before.before.before.requires.0 c.before.before.before.before.before.before.before.before.before.before.before.before.loop.invariant.0 (omega arith) c.before.before.before.before.before.before.before.before.before.judge-entry.ensures c.before.before.before.before.before.before.before.enum_told.given.1 c.before.before.before.keep-figures.ensures c.waits.ensures, search passing, search passing, search begins_next))
+    (λ c. (passing_more c.requires.0 c.loop-i.invariant.0 (omega arith) c.judge_entry-source.ensures c.in-Passes.is c.keep_figures.ensures c.waits-waiting.ensures, search passing, search passing, search begins_next))
     (λ c. search passing)
-    (λ c. passing_all c.before.before.before.before.before.before.requires.0 c.before.loop.invariant.0 (omega arith)))
+    (λ c. passing_all c.requires.0 c.loop-i.invariant.0 (omega arith)))

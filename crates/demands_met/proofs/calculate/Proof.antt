@@ -4,4 +4,4 @@ use Rattle.demands_met.proofs.calculate.Statement.{statement}
 use Rattle.demands_met.proofs.calculate.Tie as tie
 
 pub calculate_spec : {M : Type 1} → statement M
-calculate_spec = tie.close (tie.spec (search rules) (search rules) (λ c. calculates (λ i. lent (c.before.before.before.before.before.shared-slice-known.given i)) (search rules)))
+calculate_spec = tie.close (tie.spec (search rules) (search rules) (λ c. calculates (λ i. lent (c.shared_slice_known-1.given i)) (search rules)))

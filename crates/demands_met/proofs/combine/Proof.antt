@@ -4,4 +4,4 @@ use Rattle.demands_met.proofs.combine.Statement.{statement}
 use Rattle.demands_met.proofs.combine.Tie as tie
 
 pub combine_spec : {M : Type 1} → statement M
-combine_spec = tie.close (tie.spec (search rules) (search rules) (λ c. combines (λ i. lent (c.before.before.before.before.before.before.shared-slice-known.given i)) (λ i. lent (c.before.before.before.before.before.shared-slice-known2.given i)) (search rules)))
+combine_spec = tie.close (tie.spec (search rules) (search rules) (λ c. combines (λ i. lent (c.shared_slice_known-1.given i)) (λ i. lent (c.shared_slice_known-2-1.given i)) (search rules)))

@@ -5,18 +5,18 @@ use Rattle.mass_source.proofs.Judging.{Copying, copying_none, copying}
 use Rattle.mass_source.proofs.figures_of.Statement.{statement}
 use Rattle.mass_source.proofs.figures_of.Tie as tie
 
-abbrev invariant-loop : tie.invariant-loop
-invariant-loop equivalent masses figures₀ gas₀ figures gas = Copying masses equivalent figures₀ figures gas × (gas ≤ gas_count)
+abbrev invariant-loop-gas : tie.invariant-loop-gas
+invariant-loop-gas equivalent masses figures₀ gas₀ figures gas = Copying masses equivalent figures₀ figures gas × (gas ≤ gas_count)
 
-abbrev decreases-loop : tie.decreases-loop
-decreases-loop equivalent masses figures₀ gas₀ figures gas = gas_count - gas
+abbrev decreases-loop-gas : tie.decreases-loop-gas
+decreases-loop-gas equivalent masses figures₀ gas₀ figures gas = gas_count - gas
 
 pub figures_of_spec : {M : Type 1} → statement M
 figures_of_spec =
     tie.close
     (tie.spec
-    invariant-loop
-    decreases-loop
+    invariant-loop-gas
+    decreases-loop-gas
     (λ c. (copying_none _ _ _ (search copying) refl, search copying))
     (λ c. search copying)
     (λ c. search copying)

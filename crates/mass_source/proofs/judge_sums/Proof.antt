@@ -10,11 +10,11 @@ judge_sums_spec =
     tie.close
     (tie.spec
     (λ c. omega arith)
-    (λ c κs. let p = c.before.before.before.requires in ((p.added 0 (omega arith)).low_fits, p.taken.low_fits))
+    (λ c κs. let p = c.requires in ((p.added 0 (omega arith)).low_fits, p.taken.low_fits))
     (λ c κs. search rules)
-    (λ c. judged-below (sym c.before.before.below.ensures ∙ c.before.if1.true) c.faulty.ensures)
-    (λ c κs. let p = c.before.before.before.before.before.requires in ((p.added 0 (omega arith)).low_fits, p.taken.low_fits, sym c.before.below.ensures ∙ c.if1.false))
+    (λ c. judged-below (sym c.below-below.ensures ∙ c.if-below.true) c.faulty.ensures)
+    (λ c κs. let p = c.requires in ((p.added 0 (omega arith)).low_fits, p.taken.low_fits, sym c.below-below.ensures ∙ c.if-below.false))
     (λ c. omega arith)
-    (λ c κs. net_roomy c.before.before.before.before.before.before.requires c.subtract.ensures)
+    (λ c κs. net_roomy c.requires c.subtract.ensures)
     (λ c κs. omega arith)
-    (λ c. judged-weighed c.before.before.before.before.before.before.before.before.requires c.before.before.subtract.ensures (sym c.before.before.before.before.below.ensures ∙ c.before.before.before.if1.false) c.before.grams.ensures c.weigh.ensures))
+    (λ c. judged-weighed c.requires c.subtract.ensures (sym c.below-below.ensures ∙ c.if-below.false) c.grams-masses.ensures c.weigh.ensures))

@@ -4,18 +4,18 @@ use borrow.Author.Rules.{rules}
 use Rattle.test_calls.proofs.write_numbers.Statement.{statement}
 use Rattle.test_calls.proofs.write_numbers.Tie as tie
 
-abbrev invariant-loop : tie.invariant-loop
-invariant-loop numbers k₀ k = k ≤ length numbers
+abbrev invariant-loop-k : tie.invariant-loop-k
+invariant-loop-k numbers k₀ k = k ≤ length numbers
 
-abbrev decreases-loop : tie.decreases-loop
-decreases-loop numbers k₀ k = length numbers - k
+abbrev decreases-loop-k : tie.decreases-loop-k
+decreases-loop-k numbers k₀ k = length numbers - k
 
 pub write_numbers_spec : {M : Type 1} → statement M
 write_numbers_spec =
     tie.close
     (tie.spec
-    invariant-loop
-    decreases-loop
+    invariant-loop-k
+    decreases-loop-k
     (λ c. search rules)
     (λ c. search rules)
     (λ c. search rules)
