@@ -1,14 +1,19 @@
 // The place of a result: what stands there, and where links lead from it.
-ghost use Rattle.std.specs.Prelude.{◌≡◌, ◌≤◌, ◌<◌, length};
-ghost use Rattle.libc.specs.Io.{Ended};
-ghost use Rattle.command_files.specs.Files.{came, Within};
+ghost use Rattle.std.specs.Prelude.{◌≡◌, ◌≤◌, IfOk, None, length};
+ghost use Rattle.command_files.specs.Files.{Front, Within};
 ghost use Rattle.command_files.specs.Places.{front_judged, Spared, is_slash, folder_length, text_at, Led};
 
-use crate::{Input, complain_of, fail, read_all};
-use libc::PATH_MAX;
+use crate::{Input, PATH_ROOM, complain_of, fail, fill_room, path_text};
+use std::fs::{File, OpenOptions};
+use std::io::ErrorKind;
+use std::os::unix::fs::MetadataExt;
+use std::path::PathBuf;
+use std::{fs, io};
 
-// The last byte of the system's paths, which is 0.
-const LAST: usize = PATH_MAX - 1;
+// The bits of a mode that say of what kind a file is, and those of a plain file.
+const KIND: u32 = 0o170000;
+
+const PLAIN: u32 = 0o100000;
 
 // The system follows so many links at most.
 const LINKS: usize = 40;
@@ -21,51 +26,12 @@ pub enum Place {
     Plain(u32),
 }
 
-// What `fstat` answers, and the mode that then stands in the struct.
-#[derive(Drop)]
-struct Told {
-    status: i32,
-    mode: u32,
-}
-
-// A struct of zeros, for the system to fill.
-fn blank() -> libc::types::stat {
-    let t = libc::types::timespec {
-        tv_sec: 0,
-        tv_nsec: 0,
-    };
-    let u: [i64; 3] = [0; 3];
-    libc::types::stat {
-        st_dev: 0,
-        st_ino: 0,
-        st_nlink: 0,
-        st_mode: 0,
-        st_uid: 0,
-        st_gid: 0,
-        __pad: 0,
-        st_rdev: 0,
-        st_size: 0,
-        st_blksize: 0,
-        st_blocks: 0,
-        st_atim: t,
-        st_mtim: t,
-        st_ctim: t,
-        __unused: u,
-    }
-}
-
-// As small as can be, since its proof goes by hand: it lends a struct.
-fn filled(fd: i32, mut s: libc::types::stat) -> Told {
-    Told {
-        status: libc::fstat(fd, &mut s),
-        mode: s.st_mode,
-    }
-}
-
 // The mode of an open file, its kind among the bits; 0 where it cannot be had.
-fn mode_of(fd: i32) -> u32 {
-    let t = filled(fd, blank());
-    if t.status == 0 { t.mode } else { 0 }
+fn mode_of(file: &File) -> u32 {
+    match file.metadata() {
+        Ok(metadata) => metadata.mode(),
+        Err(_) => 0,
+    }
 }
 
 // A plain file by its first bytes and its mode: a register is never replaced.
@@ -80,95 +46,93 @@ fn judge_front(front: &[u8; 4], mode: u32) -> Place
 }
 
 fn is_plain(mode: u32) -> bool {
-    mode & libc::S_IFMT == libc::S_IFREG
+    mode & KIND == PLAIN
 }
 
 // What is no plain file is not replaced, as a rename would. A line on standard error says why a place is barred.
-fn judge_found(front: &[u8; 4], mode: u32, path: &[u8]) -> Place
+fn judge_found(rt: HostRuntime, front: &[u8; 4], mode: u32, path: &[u8]) -> Place
     requires { 4 ≤ length front.now }
     ensures { Spared front.now result }
 {
     if !is_plain(mode) {
-        complain_of(path, b": no plain file, so no result takes its place\n");
+        complain_of(rt, path, b": no plain file, so no result takes its place\n");
         return Place::Barred;
     }
     let place = judge_front(front, mode);
     if let Place::Barred = place {
-        complain_of(path, b": a register, and no result takes its place\n");
+        complain_of(rt, path, b": a register, and no result takes its place\n");
     }
     place
 }
 
 // The first bytes of a plain file. A pipe is not read, since that may wait for ever.
-fn read_front(fd: i32, mode: u32, front: &mut [u8]) -> Input
-    ensures { Within result front.new }
+fn read_front(file: &mut File, mode: u32, front: &mut [u8]) -> io::Result<usize>
+    ensures { IfOk result (λ n. Front n front.new) }
 {
     if !is_plain(mode) {
-        return Input::Came(0);
+        return Ok(0);
     }
-    read_all(fd, front)
+    fill_room(file, front)
+}
+
+fn open_to_update(rt: HostRuntime, path: &[u8]) -> io::Result<File> {
+    OpenOptions::new()
+        .read(true)
+        .write(true)
+        .open(&rt, path_text(path)?)
+}
+
+// The mode of an open file, and its first bytes if it is a plain one. It is closed before a word is said, since where standard error is closed it
+// may have that number.
+fn look_into(mut file: File, front: &mut [u8]) -> io::Result<u32> {
+    let mode = mode_of(&file);
+    read_front(&mut file, mode, front)?;
+    Ok(mode)
+}
+
+fn judge_file(rt: HostRuntime, file: File, path: &[u8]) -> Place {
+    let mut front = [0u8; 4];
+    match look_into(file, &mut front) {
+        Ok(mode) => judge_found(rt, &front, mode, path),
+        Err(error) => {
+            fail(rt, path, error);
+            Place::Barred
+        }
+    }
 }
 
 // What stands at a path that is no link. A file that may not be read and written is not replaced: what cannot be read may be a register.
-// It is closed before a word is said, since where standard error is closed it may have that number.
-pub fn judge_place(path: &[u8]) -> Place
-    ensures { path.now ≡ path.now }
-{
-    let fd = os::open_update(path);
-    if fd < 0 {
-        if os::errno() == libc::ENOENT {
-            return Place::Free;
+pub fn judge_place(rt: HostRuntime, path: &[u8]) -> Place {
+    match open_to_update(rt, path) {
+        Ok(file) => judge_file(rt, file, path),
+        Err(error) if error.kind() == ErrorKind::NotFound => Place::Free,
+        Err(error) => {
+            fail(rt, path, error);
+            Place::Barred
         }
-        fail(path);
-        return Place::Barred;
     }
-    let mode = mode_of(fd);
-    let mut front = [0u8; 4];
-    let input = read_front(fd, mode, &mut front);
-    libc::close(fd);
-    if let Input::Failed = input {
-        fail(path);
-        return Place::Barred;
-    }
-    judge_found(&front, mode, path)
 }
 
-// A path as the system takes it.
-fn ended(path: &[u8]) -> [u8; PATH_MAX]
-    requires { length path.now < 4096 }
-    ensures { Ended result }
+// Where no link stands, it leads nowhere. What else keeps a link from being read is an error.
+fn without_link(error: io::Error) -> io::Result<Option<PathBuf>>
+    ensures { IfOk result (λ link. link ≡ None) }
 {
-    let mut ended = io::buffer();
-    fields::put_bytes(&mut ended, 0, path);
-    ended[LAST] = 0;
-    ended
-}
-
-// Nothing comes where no link stands. What else keeps it from being read is told.
-fn come_without_link(path: &[u8]) -> Input
-    ensures { came result ≡ 0 }
-{
-    let error = os::errno();
-    if error == libc::EINVAL || error == libc::ENOENT {
-        return Input::Came(0);
+    let kind = error.kind();
+    if kind == ErrorKind::InvalidInput || kind == ErrorKind::NotFound {
+        return Ok(None);
     }
-    fail(path);
-    Input::Failed
+    Err(error)
 }
 
 // Where the link at a path leads, as it is written there. What is too long for a path is opened later, which tells so.
-fn read_link(path: &[u8], text: &mut [u8]) -> Input
-    ensures { Within result text.new }
-{
-    if PATH_MAX <= path.len() {
-        return Input::Came(0);
+fn read_link(rt: HostRuntime, path: &[u8]) -> io::Result<Option<PathBuf>> {
+    if PATH_ROOM <= path.len() {
+        return Ok(None);
     }
-    let link = ended(path);
-    let got = libc::readlink(&link, text);
-    if got < 0 {
-        return come_without_link(path);
+    match fs::read_link(&rt, path_text(path)?) {
+        Ok(link) => Ok(Some(link)),
+        Err(error) => without_link(error),
     }
-    Input::Came(io::count(got, text))
 }
 
 // How much of a path, the first n bytes of its room, names its folder, with the slash.
@@ -209,13 +173,13 @@ fn text_at(text: &[u8], room: &[u8], n: usize) -> usize
 }
 
 // Puts the text of a link into the link's own path, which then is the one that it leads to, and says how long that is.
-fn put_link(text: &[u8], room: &mut [u8], n: usize) -> Input
+fn put_link(rt: HostRuntime, text: &[u8], room: &mut [u8], n: usize) -> Input
     requires { n ≤ length room.old }
     ensures { Led text.now room.old n result room.new }
 {
     let at = text_at(text, room, n);
     if room.len() - at <= text.len() {
-        complain_of(&room[..n], b": a link to a path that is too long\n");
+        complain_of(rt, &room[..n], b": a link to a path that is too long\n");
         return Input::Failed;
     }
     fields::put_bytes(room, at, text);
@@ -223,28 +187,29 @@ fn put_link(text: &[u8], room: &mut [u8], n: usize) -> Input
 }
 
 // Puts in the place of a path, the first n bytes of its room, the one to which links lead from it, and says how long that is.
-pub fn follow_links(room: &mut [u8], n: usize) -> Input
+pub fn follow_links(rt: HostRuntime, room: &mut [u8], n: usize) -> Input
     requires { n ≤ length room.old }
     ensures { Within result room.new }
 {
     let mut end = n;
     let mut links: usize = 0;
     while links <= LINKS {
-        let mut text = io::buffer();
-        let link = read_link(&room[..end], &mut text);
-        let Input::Came(m) = link else {
-            return Input::Failed;
-        };
-        if m == 0 {
-            return Input::Came(end);
+        match read_link(rt, &room[..end]) {
+            Ok(Some(link)) => {
+                let led = put_link(rt, link.as_str().as_bytes(), room, end);
+                let Input::Came(k) = led else {
+                    return Input::Failed;
+                };
+                end = k;
+            }
+            Ok(None) => return Input::Came(end),
+            Err(error) => {
+                fail(rt, &room[..end], error);
+                return Input::Failed;
+            }
         }
-        let led = put_link(&text[..m], room, end);
-        let Input::Came(k) = led else {
-            return Input::Failed;
-        };
-        end = k;
         links += 1;
     }
-    complain_of(&room[..end], b": too many links\n");
+    complain_of(rt, &room[..end], b": too many links\n");
     Input::Failed
 }

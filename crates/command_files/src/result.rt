@@ -4,11 +4,14 @@ ghost use Rattle.decimal_write.specs.Digits.{Fronted};
 ghost use Rattle.command_files.specs.Files.{Named, beside};
 
 use crate::place::Place;
-use crate::{complain_of, fail};
-use libc::PATH_MAX;
+use crate::{PATH_ROOM, complain_of, fail, path_text};
+use std::fs::{File, OpenOptions, Permissions};
+use std::io::{ErrorKind, Write};
+use std::os::unix::fs::PermissionsExt;
+use std::{fs, io};
 
 // A path, `.new-`, and a number with the byte behind it.
-const NAME_ROOM: usize = PATH_MAX + 26;
+const NAME_ROOM: usize = PATH_ROOM + 26;
 
 // Names that are tried for a new file, since other commands have theirs there, and those that were killed have left theirs.
 const TRIES: u64 = 1000;
@@ -16,11 +19,11 @@ const TRIES: u64 = 1000;
 // The bits of a mode that say who may read, write and run a file.
 const PERMISSIONS: u32 = 0o777;
 
-// A new file, by its descriptor and the length of its name.
+// A new file, and the length of its name.
 #[derive(Drop)]
 enum Made {
     Nothing,
-    Open(i32, usize),
+    Open(File, usize),
 }
 
 // A name beside a path, and so in the same folder, from where a rename puts the file in its place at once.
@@ -37,83 +40,90 @@ fn put_beside(path: &[u8], number: u64, name: &mut [u8]) -> usize
     at + 5 + n
 }
 
-// A new file beside a path, with ordinary permissions. No two commands get one file, since a name that is taken is not opened.
-fn create_beside(path: &[u8], name: &mut [u8]) -> Made
+// A new file with ordinary permissions. No two commands get one file, since a name that is taken is not opened.
+fn create(rt: HostRuntime, name: &[u8]) -> io::Result<File> {
+    OpenOptions::new()
+        .write(true)
+        .create_new(true)
+        .open(&rt, path_text(name)?)
+}
+
+// A new file beside a path. Where none can be made, a line on standard error says so.
+fn create_beside(rt: HostRuntime, path: &[u8], name: &mut [u8]) -> Made
     requires { length path.now + 26 ≤ length name.old }
     ensures { Named result name.new }
 {
     let mut number: u64 = 0;
     while number < TRIES {
         let n = put_beside(path, number, name);
-        let fd = os::create(&name[..n]);
-        if 0 <= fd {
-            return Made::Open(fd, n);
-        }
-        if os::errno() != libc::EEXIST {
-            return Made::Nothing;
+        match create(rt, &name[..n]) {
+            Ok(file) => return Made::Open(file, n),
+            Err(error) if error.kind() == ErrorKind::AlreadyExists => {}
+            Err(error) => {
+                fail(rt, path, error);
+                return Made::Nothing;
+            }
         }
         number += 1;
     }
+    complain_of(
+        rt,
+        path,
+        b": a thousand files lie beside it that killed commands left, its name with .new-0~ to .new-999~ behind it; delete them\n",
+    );
     Made::Nothing
 }
 
-// No new file could be made: every name that was tried is taken, or what the system says.
-fn complain_of_none(path: &[u8]) {
-    if os::errno() == libc::EEXIST {
-        complain_of(
-            path,
-            b": a thousand files lie beside it that killed commands left, its name with .new-0~ to .new-999~ behind it; delete them\n",
-        );
-        return;
-    }
-    fail(path);
-}
-
 // A result has the permissions of the file that it replaces.
-fn keep_mode(fd: i32, place: Place) -> bool {
+fn keep_mode(file: &File, place: Place) -> io::Result<()> {
     let Place::Plain(mode) = place else {
-        return true;
+        return Ok(());
     };
-    libc::fchmod(fd, mode & PERMISSIONS) == 0
+    file.set_permissions(Permissions::from_mode(mode & PERMISSIONS))
 }
 
 // Writes, syncs and closes a new file.
-fn fill(fd: i32, bytes: &[u8], path: &[u8], place: Place) -> bool {
-    let stored = keep_mode(fd, place) && io::write_all(fd, bytes) && libc::fsync(fd) == 0;
-    if !stored {
-        fail(path);
-        libc::close(fd);
-        return false;
-    }
-    let closed = libc::close(fd) == 0;
-    if !closed {
-        fail(path);
-    }
-    closed
+fn fill(mut file: File, bytes: &[u8], place: Place) -> io::Result<()> {
+    keep_mode(&file, place)?;
+    file.write_all(bytes)?;
+    file.sync_all()
 }
 
-fn put_in_place(name: &[u8], path: &[u8]) -> bool {
-    let renamed = os::rename(name, path) == 0;
-    if !renamed {
-        fail(path);
-    }
-    renamed
+fn put_in_place(rt: HostRuntime, name: &[u8], path: &[u8]) -> io::Result<()> {
+    fs::rename(&rt, path_text(name)?, path_text(path)?)
+}
+
+// A new file that is not to stay. What keeps it from being removed is not told, since the line of a failure is said before.
+fn remove(rt: HostRuntime, name: &[u8]) -> io::Result<()> {
+    fs::remove_file(&rt, path_text(name)?)
+}
+
+fn fill_in_place(
+    rt: HostRuntime,
+    file: File,
+    bytes: &[u8],
+    name: &[u8],
+    path: &[u8],
+    place: Place,
+) -> io::Result<()> {
+    fill(file, bytes, place)?;
+    put_in_place(rt, name, path)
 }
 
 // A result in the place of what stood there, whole or not at all.
-pub fn store(path: &[u8], place: Place, bytes: &[u8]) -> bool
+pub fn store(rt: HostRuntime, path: &[u8], place: Place, bytes: &[u8]) -> bool
     requires { length path.now ≤ 4096 }
-    ensures { bytes.now ≡ bytes.now }
 {
     let mut room = [0u8; NAME_ROOM];
-    let made = create_beside(path, &mut room);
-    let Made::Open(fd, n) = made else {
-        complain_of_none(path);
+    let Made::Open(file, n) = create_beside(rt, path, &mut room) else {
         return false;
     };
-    let kept = fill(fd, bytes, path, place) && put_in_place(&room[..n], path);
-    if !kept {
-        os::unlink(&room[..n]);
+    match fill_in_place(rt, file, bytes, &room[..n], path, place) {
+        Ok(()) => true,
+        Err(error) => {
+            fail(rt, path, error);
+            let _ = remove(rt, &room[..n]);
+            false
+        }
     }
-    kept
 }
