@@ -4,7 +4,7 @@
 mod place;
 mod result;
 
-ghost use Rattle.std.specs.Prelude.{◌≡◌, IfOk};
+ghost use Rattle.std.specs.Prelude.{◌≡◌, ◌^◌, ◌<◌, IfOk};
 ghost use Rattle.decimal_read.specs.Numerals.{numeral_in};
 ghost use Rattle.command_files.specs.Files.{Front, Within};
 
@@ -49,19 +49,26 @@ fn tell(rt: HostRuntime, words: &[u8]) {
 }
 
 // One line on standard error, which begins with the program's name as every such line does.
-pub fn complain(rt: HostRuntime, line: &[u8]) {
+pub fn complain(rt: HostRuntime, line: &[u8])
+    ensures { line.now ≡ line.now }
+{
     complain_of(rt, line, b"");
 }
 
 // What a line is about, as a file by its name, and what is wrong with it.
-pub fn complain_of(rt: HostRuntime, what: &[u8], why: &[u8]) {
+pub fn complain_of(rt: HostRuntime, what: &[u8], why: &[u8])
+    ensures what_value { what.now ≡ what.now }
+    ensures why_value { why.now ≡ why.now }
+{
     tell(rt, b"kopristen: ");
     tell(rt, what);
     tell(rt, why);
 }
 
 // The line of a call of the system that has failed.
-pub fn fail(rt: HostRuntime, what: &[u8], error: io::Error) {
+pub fn fail(rt: HostRuntime, what: &[u8], error: io::Error)
+    ensures { what.now ≡ what.now }
+{
     complain_of(rt, what, b": ");
     tell_error(rt, error);
     tell(rt, b"\n");
@@ -87,12 +94,16 @@ fn complain_unless(rt: HostRuntime, written: io::Result<()>) {
 }
 
 // All that a command has to say on standard output.
-pub fn say(rt: HostRuntime, text: &[u8]) {
+pub fn say(rt: HostRuntime, text: &[u8])
+    ensures { text.now ≡ text.now }
+{
     complain_unless(rt, rt.write_all(text));
 }
 
 // Bytes and the line feed behind them, on standard output.
-pub fn say_line(rt: HostRuntime, text: &[u8]) {
+pub fn say_line(rt: HostRuntime, text: &[u8])
+    ensures { text.now ≡ text.now }
+{
     complain_unless(rt, write_line(rt, text));
 }
 
@@ -137,7 +148,9 @@ fn is_word(rt: HostRuntime, i: usize) -> bool {
 }
 
 // How many words the command line has, the program's name among them.
-pub fn word_count(rt: HostRuntime) -> usize {
+pub fn word_count(rt: HostRuntime) -> usize
+    ensures { result < 2 ^ 64 }
+{
     for i in 0..usize::MAX {
         if !is_word(rt, i) {
             return i;
@@ -246,6 +259,7 @@ fn store_file(rt: HostRuntime, i: usize, bytes: &[u8]) -> bool {
 // Ends a command that makes a file, with what it says. An acceptance is said when the result, which word i names, is in its place.
 pub fn deliver_saying(rt: HostRuntime, answer: Answer, made: &[u8], i: usize, text: &[u8])
     requires { Front answer.length made.now }
+    ensures { made.now ≡ made.now }
 {
     let number = answer.number;
     if number == 0 {
@@ -261,6 +275,7 @@ pub fn deliver_saying(rt: HostRuntime, answer: Answer, made: &[u8], i: usize, te
 // Ends a command that makes a report: it says the answer.
 pub fn deliver(rt: HostRuntime, answer: Answer, report: &[u8], i: usize)
     requires { Front answer.length report.now }
+    ensures { report.now ≡ report.now }
 {
     let mut line = [0u8; LINE_ROOM];
     let n = command_answer::answer_line(answer, &mut line);

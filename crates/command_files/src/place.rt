@@ -102,7 +102,9 @@ fn judge_file(rt: HostRuntime, file: File, path: &[u8]) -> Place {
 }
 
 // What stands at a path that is no link. A file that may not be read and written is not replaced: what cannot be read may be a register.
-pub fn judge_place(rt: HostRuntime, path: &[u8]) -> Place {
+pub fn judge_place(rt: HostRuntime, path: &[u8]) -> Place
+    ensures { path.now ≡ path.now }
+{
     match open_to_update(rt, path) {
         Ok(file) => judge_file(rt, file, path),
         Err(error) if error.kind() == ErrorKind::NotFound => Place::Free,

@@ -113,6 +113,7 @@ fn fill_in_place(
 // A result in the place of what stood there, whole or not at all.
 pub fn store(rt: HostRuntime, path: &[u8], place: Place, bytes: &[u8]) -> bool
     requires { length path.now ≤ 4096 }
+    ensures { bytes.now ≡ bytes.now }
 {
     let mut room = [0u8; NAME_ROOM];
     let Made::Open(file, n) = create_beside(rt, path, &mut room) else {
