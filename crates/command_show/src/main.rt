@@ -4,21 +4,21 @@
 use command_files::{Input, REPORT_ROOM};
 use report_text::TEXT_ROOM;
 
-fn show(report: &[u8]) {
+fn show(rt: HostRuntime, report: &[u8]) {
     let mut output = [0u8; TEXT_ROOM];
     let n = command_answer::put_text_or_refusal(report, &mut output);
-    command_files::say(&output[..n]);
+    command_files::say(rt, &output[..n]);
 }
 
-fn main() {
-    if os::arg_count() != 2 {
-        command_files::complain(b"use: show REPORT\n");
+fn main(rt: HostRuntime) {
+    if command_files::word_count(rt) != 2 {
+        command_files::complain(rt, b"use: show REPORT\n");
         return;
     }
     let mut report = [0u8; REPORT_ROOM];
-    let input = command_files::read_file(1, &mut report);
+    let input = command_files::read_file(rt, 1, &mut report);
     let Input::Came(n) = input else {
         return;
     };
-    show(&report[..n]);
+    show(rt, &report[..n]);
 }
