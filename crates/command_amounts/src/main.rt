@@ -40,23 +40,23 @@ fn put_output(cards: &[u8], amounts: &mut [u8], output: &mut [u8]) -> Said
     Said { answer, length }
 }
 
-fn work_out(cards: &[u8]) {
+fn work_out(rt: HostRuntime, cards: &[u8]) {
     let mut amounts = [0u8; LONGEST_AMOUNTS];
     let mut output = [0u8; OUTPUT_ROOM];
     let said = put_output(cards, &mut amounts, &mut output);
     let n = said.length;
-    command_files::deliver_saying(said.answer, &amounts, 2, &output[..n]);
+    command_files::deliver_saying(rt, said.answer, &amounts, 2, &output[..n]);
 }
 
-fn main() {
-    if os::arg_count() != 3 {
-        command_files::complain(b"use: amounts CARDS RESULT\n");
+fn main(rt: HostRuntime) {
+    if command_files::word_count(rt) != 3 {
+        command_files::complain(rt, b"use: amounts CARDS RESULT\n");
         return;
     }
     let mut cards = [0u8; CARDS_ROOM];
-    let input = command_files::read_file(1, &mut cards);
+    let input = command_files::read_file(rt, 1, &mut cards);
     let Input::Came(n) = input else {
         return;
     };
-    work_out(&cards[..n]);
+    work_out(rt, &cards[..n]);
 }
