@@ -3,26 +3,26 @@
 
 use command_files::{Input, REPORT_ROOM};
 
-fn combine(first: &[u8], second: &[u8]) {
+fn combine(rt: HostRuntime, first: &[u8], second: &[u8]) {
     let mut report = [0u8; REPORT_ROOM];
     let answer = report_combine::combine(first, second, &mut report);
-    command_files::deliver(answer, &report, 3);
+    command_files::deliver(rt, answer, &report, 3);
 }
 
-fn main() {
-    if os::arg_count() != 4 {
-        command_files::complain(b"use: combine FIRST SECOND REPORT\n");
+fn main(rt: HostRuntime) {
+    if command_files::word_count(rt) != 4 {
+        command_files::complain(rt, b"use: combine FIRST SECOND REPORT\n");
         return;
     }
     let mut first = [0u8; REPORT_ROOM];
-    let input = command_files::read_file(1, &mut first);
+    let input = command_files::read_file(rt, 1, &mut first);
     let Input::Came(n) = input else {
         return;
     };
     let mut second = [0u8; REPORT_ROOM];
-    let other = command_files::read_file(2, &mut second);
+    let other = command_files::read_file(rt, 2, &mut second);
     let Input::Came(m) = other else {
         return;
     };
-    combine(&first[..n], &second[..m]);
+    combine(rt, &first[..n], &second[..m]);
 }
