@@ -3,21 +3,21 @@
 
 use command_files::{Input, REGISTER_ROOM, REPORT_ROOM};
 
-fn calculate(register: &[u8]) {
+fn calculate(rt: HostRuntime, register: &[u8]) {
     let mut report = [0u8; REPORT_ROOM];
     let answer = calculation::calculate(register, &mut report);
-    command_files::deliver(answer, &report, 2);
+    command_files::deliver(rt, answer, &report, 2);
 }
 
-fn main() {
-    if os::arg_count() != 3 {
-        command_files::complain(b"use: calculate REGISTER REPORT\n");
+fn main(rt: HostRuntime) {
+    if command_files::word_count(rt) != 3 {
+        command_files::complain(rt, b"use: calculate REGISTER REPORT\n");
         return;
     }
     let mut register = [0u8; REGISTER_ROOM];
-    let input = command_files::read_file(1, &mut register);
+    let input = command_files::read_file(rt, 1, &mut register);
     let Input::Came(n) = input else {
         return;
     };
-    calculate(&register[..n]);
+    calculate(rt, &register[..n]);
 }

@@ -7,7 +7,6 @@ ghost use Rattle.meaning.specs.Programs;
 ghost use Rattle.decimal_write.specs.Digits.{Fronted};
 
 use command_files::{Input, REGISTER_ROOM, REPORT_ROOM};
-use libc::STDIN_FILENO;
 use report_text::TEXT_ROOM;
 
 // All that the program says of a register, put to the front of the output's room.
@@ -25,18 +24,17 @@ fn put_output(register: &[u8], output: &mut [u8]) -> usize
     command_answer::put_refusal(number, answer.place, output)
 }
 
-fn say_output(register: &[u8]) {
+fn say_output(rt: HostRuntime, register: &[u8]) {
     let mut output = [0u8; TEXT_ROOM];
     let n = put_output(register, &mut output);
-    command_files::say(&output[..n]);
+    command_files::say(rt, &output[..n]);
 }
 
-fn main() {
+fn main(rt: HostRuntime) {
     let mut register = [0u8; REGISTER_ROOM];
-    let input = command_files::read_all(STDIN_FILENO, &mut register);
+    let input = command_files::read_all(rt, b"standard input", &mut rt.stdin(), &mut register);
     let Input::Came(n) = input else {
-        command_files::fail(b"standard input");
         return;
     };
-    say_output(&register[..n]);
+    say_output(rt, &register[..n]);
 }

@@ -5,9 +5,10 @@
 ghost use Rattle.std.specs.Prelude.{◌/◌, ◌≤◌, ◌<◌, length};
 
 use basis::Answer;
-use libc::{STDERR_FILENO, STDOUT_FILENO};
 use meaning::{Found, Part};
 use register_header::LONGEST_REGISTER;
+use std::fs::File;
+use std::io::Read;
 
 // A record is a header, then the first input of its call, then the second.
 const RECORD_HEADER: usize = 64;
@@ -103,21 +104,21 @@ fn put_line(bytes: &[u8], line: &mut [u8])
     line[k] = b'\n';
 }
 
-fn write_line(bytes: &[u8]) -> bool
+fn write_line(rt: HostRuntime, bytes: &[u8]) -> bool
     requires { length bytes.now ≤ 8 }
 {
     let mut line = [0u8; 17];
     put_line(bytes, &mut line);
     let n = 2 * bytes.len() + 1;
-    io::write_all(STDOUT_FILENO, &line[..n])
+    rt.write_all(&line[..n]).is_ok()
 }
 
 // Bytes in lines of eight, the last line of what is left.
-fn write_lines(bytes: &[u8]) -> bool {
+fn write_lines(rt: HostRuntime, bytes: &[u8]) -> bool {
     let mut at: usize = 0;
     while BYTES_A_LINE <= bytes.len() - at {
         let end = at + BYTES_A_LINE;
-        let written = write_line(&bytes[at..end]);
+        let written = write_line(rt, &bytes[at..end]);
         if !written {
             return false;
         }
@@ -126,21 +127,21 @@ fn write_lines(bytes: &[u8]) -> bool {
     if at == bytes.len() {
         return true;
     }
-    write_line(&bytes[at..])
+    write_line(rt, &bytes[at..])
 }
 
 // A number and the byte behind it.
-fn write_number(n: u64, after: u8) -> bool {
+fn write_number(rt: HostRuntime, n: u64, after: u8) -> bool {
     let mut field = [0u8; 21];
     let length = decimal_write::number_field(n, after, &mut field);
-    io::write_all(STDOUT_FILENO, &field[..length])
+    rt.write_all(&field[..length]).is_ok()
 }
 
-fn write_numbers(numbers: &[u64]) -> bool {
+fn write_numbers(rt: HostRuntime, numbers: &[u64]) -> bool {
     let mut k: usize = 0;
     while k < numbers.len() {
         let after = if k + 1 < numbers.len() { b' ' } else { b'\n' };
-        let written = write_number(numbers[k], after);
+        let written = write_number(rt, numbers[k], after);
         if !written {
             return false;
         }
@@ -151,18 +152,18 @@ fn write_numbers(numbers: &[u64]) -> bool {
 
 // The name of a record and the numbers of its answer; then the buffer, as text where it was written as text. A length that is longer than
 // the buffer would be a fault of the call, and nothing is written of it.
-fn write_reply(name: &[u8], reply: Reply, buffer: &[u8]) -> bool {
+fn write_reply(rt: HostRuntime, name: &[u8], reply: Reply, buffer: &[u8]) -> bool {
     let numbers = [reply.first, reply.second, reply.third];
     let count = reply.count;
     let text = reply.text;
     if 3 < count || buffer.len() < text {
         return false;
     }
-    io::write_all(STDOUT_FILENO, name)
-        && io::write_all(STDOUT_FILENO, b" ")
-        && write_numbers(&numbers[..count])
-        && io::write_all(STDOUT_FILENO, &buffer[..text])
-        && write_lines(&buffer[text..])
+    rt.write_all(name).is_ok()
+        && rt.write_all(b" ").is_ok()
+        && write_numbers(rt, &numbers[..count])
+        && rt.write_all(&buffer[..text]).is_ok()
+        && write_lines(rt, &buffer[text..])
 }
 
 fn fill(buffer: &mut [u8], byte: u8) {
@@ -173,14 +174,32 @@ fn fill(buffer: &mut [u8], byte: u8) {
     }
 }
 
-fn is_read(fd: i32, part: &mut [u8]) -> bool {
-    let n = io::read_full(fd, part);
+// Reads until a part is full, the file ends or a read fails, and says how much came.
+fn read_full(file: &mut File, part: &mut [u8]) -> usize
+    ensures { result ≤ length part.new }
+{
+    let mut at: usize = 0;
+    while at < part.len() {
+        let Ok(n) = file.read(&mut part[at..]) else {
+            return at;
+        };
+        if n == 0 {
+            return at;
+        }
+        at += n;
+    }
+    at
+}
+
+fn is_read(file: &mut File, part: &mut [u8]) -> bool {
+    let n = read_full(file, part);
     n == part.len()
 }
 
 // Reads the inputs of a record, which fill what is lent for them, makes its call and writes what came of it. Says whether all that went well.
 fn answer_call(
-    fd: i32,
+    rt: HostRuntime,
+    file: &mut File,
     header: &[u8],
     first: &mut [u8],
     second: &mut [u8],
@@ -188,8 +207,8 @@ fn answer_call(
 ) -> bool
     requires { 64 ≤ length header.now }
 {
-    let first_read = is_read(fd, first);
-    let second_read = is_read(fd, second);
+    let first_read = is_read(file, first);
+    let second_read = is_read(file, second);
     if !first_read || !second_read {
         return false;
     }
@@ -197,12 +216,13 @@ fn answer_call(
     let call = fields::u8_at(header, 0);
     let number = fields::u32_at(header, 4) as u32;
     let reply = make_call(call, first, second, number, buffer);
-    write_reply(&header[NAME_AT..RECORD_HEADER], reply, buffer)
+    write_reply(rt, &header[NAME_AT..RECORD_HEADER], reply, buffer)
 }
 
 // Lends a record's call as much room as the record asks for.
 fn answer_record(
-    fd: i32,
+    rt: HostRuntime,
+    file: &mut File,
     header: &[u8],
     first: &mut [u8],
     second: &mut [u8],
@@ -217,7 +237,8 @@ fn answer_record(
         return false;
     }
     answer_call(
-        fd,
+        rt,
+        file,
         header,
         &mut first[..one],
         &mut second[..other],
@@ -225,47 +246,57 @@ fn answer_record(
     )
 }
 
-fn complain() {
-    io::write_all(
-        STDERR_FILENO,
+fn complain(rt: HostRuntime, line: &[u8]) {
+    let _ = rt.stderr().write_all(line);
+}
+
+fn complain_of_call(rt: HostRuntime) {
+    complain(
+        rt,
         b"a call cannot be read, or its reply cannot be written\n",
     );
 }
 
 // Answers the next record, and says whether there may be more.
-fn answer_next(fd: i32, first: &mut [u8], second: &mut [u8], buffer: &mut [u8]) -> bool {
+fn answer_next(
+    rt: HostRuntime,
+    file: &mut File,
+    first: &mut [u8],
+    second: &mut [u8],
+    buffer: &mut [u8],
+) -> bool {
     let mut header = [0u8; RECORD_HEADER];
-    let n = io::read_full(fd, &mut header);
+    let n = read_full(file, &mut header);
     if n == 0 {
         return false;
     }
     if n < RECORD_HEADER {
-        complain();
+        complain_of_call(rt);
         return false;
     }
-    let answered = answer_record(fd, &header, first, second, buffer);
+    let answered = answer_record(rt, file, &header, first, second, buffer);
     if !answered {
-        complain();
+        complain_of_call(rt);
     }
     answered
 }
 
 // A proved loop has to end, and a file need not, so the loop has more turns than any file has records.
-fn answer_all(fd: i32) {
+fn answer_all(rt: HostRuntime, file: &mut File) {
     let mut first = [0u8; INPUT_ROOM];
     let mut second = [0u8; INPUT_ROOM];
     let mut buffer = [0u8; INPUT_ROOM];
-    let mut turns = u64::MAX;
-    while 0 < turns && answer_next(fd, &mut first, &mut second, &mut buffer) {
-        turns -= 1;
+    for _ in 0..u64::MAX {
+        let answered = answer_next(rt, file, &mut first, &mut second, &mut buffer);
+        if !answered {
+            return;
+        }
     }
 }
 
-fn main() {
-    let fd = os::open_read(b"calls");
-    if fd < 0 {
-        io::write_all(STDERR_FILENO, b"the file of calls cannot be opened\n");
-        return;
+fn main(rt: HostRuntime) {
+    match File::open(&rt, "calls") {
+        Ok(mut file) => answer_all(rt, &mut file),
+        Err(_) => complain(rt, b"the file of calls cannot be opened\n"),
     }
-    answer_all(fd);
 }
