@@ -1,4 +1,3 @@
-pub mod Coming
 pub mod Longer
 pub mod Delivering
 pub mod TooLong

@@ -12,11 +12,9 @@ use Rattle.basis.proofs.Bytes.{written_then}
 use Rattle.meaning.specs.Register.{register_tag}
 use Rattle.decimal_write.specs.Digits.{Fronted}
 use Rattle.decimal_write.proofs.Fields.{fronted}
-use Rattle.command_files.specs.declared.Input.{Input}
-use Rattle.command_files.specs.declared.Input.TheVariants.{Came}
 use Rattle.command_files.specs.declared.place.Place.{Place}
 use Rattle.command_files.specs.declared.place.Place.TheVariants.{Barred, Plain}
-use Rattle.command_files.specs.Places.{front_judged, Spared, is_slash, folder_length, text_at, led_to, Led}
+use Rattle.command_files.specs.Places.{front_judged, Spared, is_slash, folder_length, text_at, led_to}
 
 module _ (front : List ℕ) (mode : ℕ) {tagged : Bool} (e : tagged ≡ starts_with register_tag front) where
   pub front_barred : tagged ≡ true → Barred ≡ front_judged front mode
@@ -101,7 +99,3 @@ module _ (text room : List ℕ) (n : ℕ) {at : ℕ} (e : at ≡ text_at text ro
 
   pub led_put : {after : List ℕ} → Written room at text after → Fronted room (led_to text room n) after (at + length text)
   led_put w = fronted (led_written w) (sym led_length)
-
--- the end of a path that a link led to lies within its room
-pub led_within : (text room : List ℕ) (n : ℕ) (led : Input) (after : List ℕ) {k : ℕ} → Led text room n led after → led ≡ Came k → k ≤ length after
-led_within text room n led after {k} w e = let f : Led text room n (Came k) after = rw e at w in f.1.within

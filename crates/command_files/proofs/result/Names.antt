@@ -1,16 +1,14 @@
 -- The name of a new file, as it is put together and lent on. Assumes nothing.
 use mathlib.Core.List.{List, ◌++◌}
-use mathlib.Core.Path.{◌≡◌, refl}
-use Prim.Native.Nat.{ℕ, ◌+◌, ◌≤◌}
+use mathlib.Core.Path.{refl}
+use Prim.Native.Nat.{ℕ, ◌+◌}
 use native.Mathlib.Omega.{arith}
 use lib.ListN.{length, take, length-append}
 use Rattle.basis.specs.Bytes.{ascii, Written}
 use Rattle.basis.proofs.Bytes.{written_then}
 use Rattle.decimal_write.specs.Digits.{Fronted, field}
 use Rattle.decimal_write.proofs.Fields.{front-is, fronted}
-use Rattle.command_files.specs.declared.result.Made.{Made}
-use Rattle.command_files.specs.declared.result.Made.TheVariants.{Open}
-use Rattle.command_files.specs.Files.{Front, Named, beside}
+use Rattle.command_files.specs.Files.{beside}
 
 module _ (number : ℕ) {name path one two three line line₀ : List ℕ} {n : ℕ} (f : Fronted line₀ (field number 126) line n) where
   pub beside_put : Written name 0 path one → Written one (length path) (ascii ".new-") two → Written two (length path + 5) (take n line) three
@@ -20,10 +18,3 @@ module _ (number : ℕ) {name path one two three line line₀ : List ℕ} {n : �
       let d : Written two (length path + 5) (field number 126) three = rw (front-is f.written f.count) at digits in
       let e : Written one (length path) (ascii ".new-" ++ field number 126) three = written_then word d refl in
       fronted (written_then w e (omega arith)) (omega (arith, length-append path (ascii ".new-" ++ field number 126), f.count))
-
-module _ {made : Made} {room : List ℕ} {n : ℕ} (w : Named made room) where
-  pub named-within : (fd : _) → made ≡ Open fd n → n ≤ length room
-  named-within fd e = let f : Front n room = rw e at w in f.within
-
-  pub named-part : (fd : _) → made ≡ Open fd n → n ≡ length (take n room)
-  named-part fd e = let f : Front n room = rw e at w in f.part
