@@ -1,3 +1,4 @@
+pub mod Coming
 pub mod Longer
 pub mod Delivering
 pub mod TooLong

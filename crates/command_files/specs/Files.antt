@@ -1,5 +1,6 @@
 -- What has come, and the name of a new file. Assumes nothing.
-use Rattle.std.specs.Prelude.{List, ◌++◌, ◌≡◌, ℕ, ◌≤◌, length, take}
+use Rattle.std.specs.Prelude.{List, ◌++◌, ◌≡◌, ℕ, ◌<◌, ◌≤◌, ⊤, Option, length, take}
+use Rattle.std.specs.Io.KnownBytes.{Consumes, IsAtEnd}
 use Rattle.basis.specs.Bytes.{ascii}
 use Rattle.decimal_write.specs.Digits.{field}
 use Rattle.command_files.specs.declared.Input.{Input}
@@ -19,6 +20,14 @@ came (Came n) = n
 -- what came lies within the room that was lent
 abbrev pub Within : Input → List ℕ → Type 0
 Within input room = Front (came input) room
+
+abbrev pub IfCame : Input → (ℕ → Type 0) → Type 0
+IfCame Failed says = ⊤
+IfCame (Came n) says = says n
+
+-- of a reader whose bytes are known: the next n of them came, and those are all where the room is not full
+abbrev pub CameFrom : Option (List ℕ) → Option (List ℕ) → ℕ → List ℕ → Type 0
+CameFrom before after n room = Consumes before after (take n room) × (n < length room → IsAtEnd after)
 
 abbrev pub name_length : Made → ℕ
 name_length Nothing = 0

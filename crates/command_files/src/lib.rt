@@ -6,7 +6,7 @@ mod result;
 
 ghost use Rattle.std.specs.Prelude.{◌≡◌, ◌^◌, ◌<◌, IfOk};
 ghost use Rattle.decimal_read.specs.Numerals.{numeral_in};
-ghost use Rattle.command_files.specs.Files.{Front, Within};
+ghost use Rattle.command_files.specs.Files.{Front, Within, IfCame, CameFrom};
 
 use basis::Answer;
 use command_answer::LINE_ROOM;
@@ -114,7 +114,8 @@ fn write_line(rt: HostRuntime, text: &[u8]) -> io::Result<()> {
 
 // Reads until the input ends or the room is full.
 fn fill_room<R: Read>(reader: &mut R, room: &mut [u8]) -> io::Result<usize>
-    ensures { IfOk result (λ n. Front n room.new) }
+    ensures front { IfOk result (λ n. Front n room.new) }
+    ensures bytes { IfOk result (λ n. CameFrom (R.remaining reader.old) (R.remaining reader.new) n room.new) }
 {
     let mut at: usize = 0;
     while at < room.len() {
@@ -129,7 +130,8 @@ fn fill_room<R: Read>(reader: &mut R, room: &mut [u8]) -> io::Result<usize>
 
 // Reads what has a name until it ends or the room is full. Where that fails, a line on standard error says so.
 pub fn read_all<R: Read>(rt: HostRuntime, what: &[u8], reader: &mut R, room: &mut [u8]) -> Input
-    ensures { Within result room.new }
+    ensures within { Within result room.new }
+    ensures bytes { IfCame result (λ n. CameFrom (R.remaining reader.old) (R.remaining reader.new) n room.new) }
 {
     match fill_room(reader, room) {
         Ok(n) => Input::Came(n),
