@@ -17,7 +17,7 @@ use input_stock_cards::{AMOUNT_LENGTH, LONGEST_AMOUNTS};
 const OUTPUT_ROOM: usize = NUMBER_ROOM * (LONGEST_AMOUNTS / AMOUNT_LENGTH);
 
 // An answer, and how many bytes are said of it.
-#[derive(Drop)]
+#[derive(Clone, Copy)]
 struct Said {
     answer: Answer,
     length: usize,

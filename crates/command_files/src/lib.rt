@@ -37,7 +37,7 @@ pub const PATH_ROOM: usize = 4096;
 const ERROR_ROOM: usize = 128;
 
 // How many bytes came, or that they could not be had, which is no refusal.
-#[derive(Drop)]
+#[derive(Clone, Copy)]
 pub enum Input {
     Failed,
     Came(usize),

@@ -19,7 +19,7 @@ const PLAIN: u32 = 0o100000;
 const LINKS: usize = 40;
 
 // What no result replaces; nothing; or a plain file, with its mode.
-#[derive(Drop)]
+#[derive(Clone, Copy)]
 pub enum Place {
     Barred,
     Free,

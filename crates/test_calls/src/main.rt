@@ -21,7 +21,7 @@ const INPUT_ROOM: usize = LONGEST_REGISTER + 1;
 const BYTES_A_LINE: usize = 8;
 
 // The numbers of an answer, two or three, and how many bytes at the front of the buffer are text.
-#[derive(Drop)]
+#[derive(Clone, Copy)]
 struct Reply {
     first: u64,
     second: u64,
