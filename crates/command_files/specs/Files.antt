@@ -21,6 +21,7 @@ came (Came n) = n
 abbrev pub Within : Input → List ℕ → Type 0
 Within input room = Front (came input) room
 
+-- what is said of how many bytes came, where any could be had
 abbrev pub IfCame : Input → (ℕ → Type 0) → Type 0
 IfCame Failed says = ⊤
 IfCame (Came n) says = says n
@@ -31,7 +32,7 @@ CameFrom before after n room = Consumes before after (take n room) × (n < lengt
 
 abbrev pub name_length : Made → ℕ
 name_length Nothing = 0
-name_length (Open fd n) = n
+name_length (Open file n) = n
 
 -- so does a new file's name
 abbrev pub Named : Made → List ℕ → Type 0

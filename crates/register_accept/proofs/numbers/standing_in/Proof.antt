@@ -25,12 +25,10 @@ standing_in_spec =
     (λ c. omega arith)
     (λ c. omega arith)
     (λ c. omega arith)
-    (λ c. let call = c in
-    number_more call.loop-i.invariant (omega arith) call.source_number-number.ensures (rw c.in-Once.is at call.insert.ensures))
+    (λ c. number_more c.loop-i.invariant (omega arith) c.source_number-number.ensures (rw c.in-Once.is at c.insert.ensures))
     (λ c. omega arith)
     (λ c. search rules)
-    (λ c. let call = c in
-    number_met call.loop-i.invariant (omega arith) call.source_number-number.ensures (rw c.in-Twice.is at call.insert.ensures).0)
+    (λ c. number_met c.loop-i.invariant (omega arith) c.source_number-number.ensures (rw c.in-Twice.is at c.insert.ensures).0)
     (λ c. omega arith)
     (λ c. search rules)
     (λ c. tt)
