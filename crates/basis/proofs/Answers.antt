@@ -1,8 +1,9 @@
 -- A call refuses exactly by the first of its tests that refuses; what a promise permits is one. Assumes nothing.
+use Rattle.std.specs.Prelude.{Result, IsErrAnd, Err, Ok}
 use mathlib.Core.Bool.{Bool, true, false}
 use mathlib.Core.List.{List, [], ◌∷◌, ◌++◌, map}
 use mathlib.Core.Logic.{◌↔◌}
-use mathlib.Core.Path.{◌≡◌, refl, sym, ◌∙◌}
+use mathlib.Core.Path.{◌≡◌, refl, sym, ◌∙◌, ap}
 use Prim.Native.Nat.{ℕ, zero, suc, ◌+◌, ◌≤◌, ◌<◌, zero-le, suc-le-suc}
 use native.Mathlib.Nat.{zero-add, le_of_suc-le-suc, not-suc-le-zero}
 use native.Mathlib.Omega.{arith}
@@ -10,11 +11,10 @@ use lib.Dec.{ltb}
 use lib.ListN.{length, get_or}
 use borrow.Author.Tests.{ltb-true, ltb-false, lt-ltb, le-ltb}
 use Rattle.basis.specs.declared.Answer.{Answer}
-use Rattle.basis.specs.declared.Verdict.{Verdict}
-use Rattle.basis.specs.declared.Verdict.TheVariants.{Passes, Refuses}
+use Rattle.basis.specs.declared.Refusal.{Refusal}
 use Rattle.basis.specs.First.{scan, first, NoneBelow}
 use Rattle.basis.specs.Lists.{Each, count_up}
-use Rattle.basis.specs.Answers.{refuse_if, refuse_at_first, first_refusal, passes, Outcome, Gives, Shows}
+use Rattle.basis.specs.Answers.{Verdict, Passes, Refuses, refuse_if, refuse_at_first, first_refusal, passes, Outcome, Gives, Shows}
 use Rattle.basis.proofs.Bools.{clash}
 use Rattle.basis.proofs.First.{first_≤, first_hits, first_misses, first-is, first-end}
 
@@ -27,11 +27,19 @@ pub record FirstToRefuse (tests : List Verdict) (number place i : ℕ) : Type 0 
 pub never : {n p : ℕ} → Passes ≡ Refuses n p → ⊥
 never e = let z : ◌≡◌ {A = ℕ} 0 1 = cc in omega arith
 
+unfoldable refusal_in : Refusal → Verdict → Refusal
+refusal_in r (Ok done) = r
+refusal_in r (Err refusal) = refusal
+
+same-refusal : {r s : Refusal} → ◌≡◌ {A = Verdict} (Err r) (Err s) → r ≡ s
+unfolding refusal_in
+same-refusal {r = r} e = ap (refusal_in r) e
+
 pub refuses-number : {m q n p : ℕ} → Refuses m q ≡ Refuses n p → n ≡ m
-refuses-number e = cc
+refuses-number e = sym (ap (λ (r : Refusal). r.number) (same-refusal e))
 
 pub refuses-place : {m q n p : ℕ} → Refuses m q ≡ Refuses n p → p ≡ q
-refuses-place e = cc
+refuses-place e = sym (ap (λ (r : Refusal). r.place) (same-refusal e))
 
 pub refuses_both : {m q n p : ℕ} → n ≡ m → p ≡ q → Refuses m q ≡ Refuses n p
 refuses_both e f = cc
@@ -39,12 +47,12 @@ refuses_both e f = cc
 pub refused-by : (tests : List Verdict) (number place i : ℕ) → FirstToRefuse tests number place i → first_refusal tests ≡ Refuses number place
 unfolding first_refusal
 refused-by [] number place i f = absurd (not-suc-le-zero f.within)
-refused-by (Passes ∷ tests) number place zero f = absurd (never f.fires)
-refused-by (Passes ∷ tests) number place (suc i) f =
+refused-by (Ok done ∷ tests) number place zero f = absurd (never f.fires)
+refused-by (Ok done ∷ tests) number place (suc i) f =
     refused-by tests number place i
     (record { within = le_of_suc-le-suc f.within; fires = f.fires; earlier = λ k l. f.earlier (suc k) (suc-le-suc l) })
-refused-by (Refuses n p ∷ tests) number place zero f = f.fires
-refused-by (Refuses n p ∷ tests) number place (suc i) f = absurd (never (sym (f.earlier 0 (suc-le-suc zero-le))))
+refused-by (Err refusal ∷ tests) number place zero f = f.fires
+refused-by (Err refusal ∷ tests) number place (suc i) f = absurd (never (sym (f.earlier 0 (suc-le-suc zero-le))))
 
 behind : {tests : List Verdict} {number place i : ℕ} → FirstToRefuse tests number place i → FirstToRefuse (Passes ∷ tests) number place (suc i)
 behind {tests} {i = i} f = record { within = suc-le-suc f.within; fires = f.fires; earlier = passed }
@@ -56,8 +64,8 @@ behind {tests} {i = i} f = record { within = suc-le-suc f.within; fires = f.fire
 pub refused-only : (tests : List Verdict) (number place : ℕ) → first_refusal tests ≡ Refuses number place → (i : ℕ) × FirstToRefuse tests number place i
 unfolding first_refusal
 refused-only [] number place e = absurd (never e)
-refused-only (Passes ∷ tests) number place e = let r = refused-only tests number place e in (suc r.0, behind r.1)
-refused-only (Refuses n p ∷ tests) number place e =
+refused-only (Ok done ∷ tests) number place e = let r = refused-only tests number place e in (suc r.0, behind r.1)
+refused-only (Err refusal ∷ tests) number place e =
     (0, record { within = suc-le-suc zero-le; fires = e; earlier = λ k l. absurd (not-suc-le-zero l) })
 
 -- the first refusal of a list of tests is answered exactly when it fires and no earlier one does
@@ -68,44 +76,83 @@ refused-exactly tests number place = (refused-only tests number place, λ r. ref
 -- a single test is answered as it finds
 pub single_test : (v : Verdict) → first_refusal (v ∷ []) ≡ v
 unfolding first_refusal
-single_test Passes = refl
-single_test (Refuses n p) = refl
+single_test (Ok done) = refl
+single_test (Err refusal) = refl
 
 -- tests behind tests: the later ones count where the earlier ones pass
 pub passed_then : (ts us : List Verdict) → first_refusal ts ≡ Passes → first_refusal (ts ++ us) ≡ first_refusal us
 unfolding first_refusal
 passed_then [] us e = refl
-passed_then (Passes ∷ ts) us e = passed_then ts us e
-passed_then (Refuses n p ∷ ts) us e = absurd (never (sym e))
+passed_then (Ok done ∷ ts) us e = passed_then ts us e
+passed_then (Err refusal ∷ ts) us e = absurd (never (sym e))
 
 pub refused_then : (ts us : List Verdict) {n p : ℕ} → first_refusal ts ≡ Refuses n p → first_refusal (ts ++ us) ≡ Refuses n p
 unfolding first_refusal
 refused_then [] us e = absurd (never e)
-refused_then (Passes ∷ ts) us e = refused_then ts us e
-refused_then (Refuses n p ∷ ts) us e = e
+refused_then (Ok done ∷ ts) us e = refused_then ts us e
+refused_then (Err refusal ∷ ts) us e = e
+
+-- what `?` hands on is the refusal that it found
+pub passed_up : {T : Type 0} {refusal : Refusal} (w : Result T Refusal) → IsErrAnd w (λ r. r ≡ refusal) → w ≡ Err refusal
+passed_up (Ok made) h = absurd h
+passed_up (Err found) h = ap Err h
+
+-- the tests of a call one behind another: the later ones are asked where one passes, and where it refuses that is what the call is told
+pub asked : {v w : Verdict} {done : Unit {0}} {test : Verdict} (tests : List Verdict) → v ≡ test → v ≡ Ok done → w ≡ first_refusal tests → w ≡ first_refusal (test ∷ tests)
+unfolding first_refusal
+asked tests e p h = h ∙ rw (sym e ∙ p)
+
+pub told : {v w : Verdict} {refusal : Refusal} {test : Verdict} (tests : List Verdict) → v ≡ test → v ≡ Err refusal → IsErrAnd w (λ r. r ≡ refusal)
+    → w ≡ first_refusal (test ∷ tests)
+unfolding first_refusal
+told {w = w} tests e p h = passed_up w h ∙ rw (sym e ∙ p)
+
+-- likewise where some tests are followed by others
+pub asked_behind : {v w : Verdict} {done : Unit {0}} (tests later : List Verdict) → v ≡ first_refusal tests → v ≡ Ok done → w ≡ first_refusal later
+    → w ≡ first_refusal (tests ++ later)
+asked_behind tests later e p h = h ∙ sym (passed_then tests later (sym e ∙ p))
+
+pub told_before : {v w : Verdict} {refusal : Refusal} (tests later : List Verdict) → v ≡ first_refusal tests → v ≡ Err refusal → IsErrAnd w (λ r. r ≡ refusal)
+    → w ≡ first_refusal (tests ++ later)
+told_before {w = w} {refusal = refusal} tests later e p h = passed_up w h ∙ sym (refused_then tests later {n = refusal.number} {p = refusal.place} (sym e ∙ p))
+
+-- a test that passes found nothing wrong
+pub nothing-wrong : {v : Verdict} {done : Unit {0}} (wrong : Bool) (number place : ℕ) → v ≡ refuse_if wrong number place → v ≡ Ok done → wrong ≡ false
+nothing-wrong true number place e p = absurd (never (sym p ∙ e))
+nothing-wrong false number place e p = refl
+
+-- one that refuses found something wrong, and its number and place are handed up
+pub something-wrong : {v w : Verdict} {refusal : Refusal} (wrong : Bool) (number place : ℕ) → v ≡ refuse_if wrong number place → v ≡ Err refusal
+    → IsErrAnd w (λ r. r ≡ refusal) → (wrong ≡ true) × (w ≡ Refuses number place)
+something-wrong {w = w} true number place e p h = (refl, passed_up w h ∙ sym p ∙ e)
+something-wrong false number place e p h = absurd (never (sym e ∙ p))
 
 pub passes-is : (v : Verdict) → passes v ≡ true → v ≡ Passes
-passes-is Passes e = refl
-passes-is (Refuses n p) e = absurd (clash e refl)
+passes-is (Ok done) e = refl
+passes-is (Err refusal) e = absurd (clash e refl)
+
+pub refused-is : (v : Verdict) → passes v ≡ false → (refusal : Refusal) × (v ≡ Err refusal)
+refused-is (Ok done) e = absurd (clash refl e)
+refused-is (Err refusal) e = (refusal, refl)
 
 -- tests that all pass, one by one
 pub each-passes : (vs : List Verdict) → first_refusal vs ≡ Passes → Each (λ v. v ≡ Passes) vs
 unfolding first_refusal
 each-passes [] e = tt
-each-passes (Passes ∷ vs) e = (refl, each-passes vs e)
-each-passes (Refuses n p ∷ vs) e = absurd (never (sym e))
+each-passes (Ok done ∷ vs) e = (refl, each-passes vs e)
+each-passes (Err refusal ∷ vs) e = absurd (never (sym e))
 
 pub passes-each : (vs : List Verdict) → Each (λ v. v ≡ Passes) vs → first_refusal vs ≡ Passes
 unfolding first_refusal
 passes-each [] h = refl
-passes-each (Passes ∷ vs) h = passes-each vs h.1
-passes-each (Refuses n p ∷ vs) h = absurd (never (sym h.0))
+passes-each (Ok done ∷ vs) h = passes-each vs h.1
+passes-each (Err refusal ∷ vs) h = absurd (never (sym h.0))
 
 pub passed_append : (vs us : List Verdict) → first_refusal (vs ++ us) ≡ Passes → (first_refusal vs ≡ Passes) × (first_refusal us ≡ Passes)
 unfolding first_refusal
 passed_append [] us e = (refl, e)
-passed_append (Passes ∷ vs) us e = passed_append vs us e
-passed_append (Refuses n p ∷ vs) us e = absurd (never (sym e))
+passed_append (Ok done ∷ vs) us e = passed_append vs us e
+passed_append (Err refusal ∷ vs) us e = absurd (never (sym e))
 
 pub passed_if : (b : Bool) (n p : ℕ) → refuse_if b n p ≡ Passes → b ≡ false
 passed_if true n p e = absurd (never (sym e))

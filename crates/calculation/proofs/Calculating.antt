@@ -1,17 +1,16 @@
 -- Calculation as its tests in order: what each part of the code finds is what the call answers. Assumes nothing.
+use Rattle.std.specs.Prelude.{Result, Err, IsErrAnd}
 use mathlib.Core.Bool.{false}
 use mathlib.Core.List.{List, [], ◌∷◌}
-use mathlib.Core.Path.{◌≡◌, sym, ◌∙◌}
+use mathlib.Core.Path.{◌≡◌, refl, sym, ◌∙◌}
 use Prim.Native.Nat.{ℕ, ◌*◌, ◌≤◌, ◌<◌}
 use native.Mathlib.Omega.{arith}
 use borrow.Author.Tests.{le-ltb}
 use lib.Dec.{ltb}
 use lib.ListN.{length, drop}
 use lib.Seq.{take_at}
-use Rattle.basis.specs.declared.Answer.{Answer}
-use Rattle.basis.specs.declared.Verdict.{Verdict}
-use Rattle.basis.specs.declared.Verdict.TheVariants.{Passes, Refuses}
-use Rattle.basis.specs.Answers.{first_refusal, answer, Gives}
+use Rattle.basis.specs.declared.Refusal.{Refusal}
+use Rattle.basis.specs.Answers.{Verdict, Passes, Refuses, first_refusal, answered, Gives}
 use Rattle.basis.proofs.Answers.{passed_then, refused_then, each-passes}
 use Rattle.basis.proofs.Bytes.{length-written}
 use Rattle.meaning.specs.Masses.{equivalent, limit}
@@ -30,13 +29,14 @@ use Rattle.calculation_judge.proofs.Pass.{none_faulty}
 use Rattle.calculation.specs.Keyed.{Keyed}
 
 -- a refusal of tests 1 to 4
-pub register-refused : {b keys left report : List ℕ} {v : Verdict} {n p : ℕ} {a : Answer} → Tested b keys v left → v ≡ Refuses n p → a ≡ answer v 0
-    → Gives (calculated b report) a report
+pub register-refused : {b keys left report : List ℕ} {v : Verdict} {refusal : Refusal} (w : Result ℕ Refusal) → Tested b keys v left → v ≡ Err refusal
+    → IsErrAnd w (λ r. r ≡ refusal) → Gives (calculated b report) (answered w) report
 unfolding calculated
-register-refused {b} {report = report} t e =
-    refused-gives (calculation_tests b) (calculated_report b) report
-    (refused_then (register_tests b) (line_test (sources_of b) ∷ mass_test (sources_of b) ∷ []) (sym t.verdict ∙ e) ∙ sym e)
-    e
+register-refused {b} {report = report} {refusal = refusal} w t e h =
+    refused-gives (calculation_tests b) (calculated_report b) report w
+    (refused_then (register_tests b) (line_test (sources_of b) ∷ mass_test (sources_of b) ∷ []) {n = refusal.number} {p = refusal.place} (sym t.verdict ∙ e))
+    refl
+    h
 
 -- and where they pass
 pub keyed : {b keys left kept : List ℕ} {v : Verdict} → Tested b keys v left → v ≡ Passes → figure_count * keys_for b ≤ length kept → Keyed b left kept
@@ -53,11 +53,11 @@ keyed {b} {keys} t e l =
     }
 
 -- a refusal of tests 5 to 7
-pub source-refused : {b kept₀ kept report : List ℕ} {v : Verdict} {n p : ℕ} {a : Answer} → Judgeable b → AllJudged b kept₀ v kept → v ≡ Refuses n p → a ≡ answer v 0
-    → Gives (calculated b report) a report
+pub source-refused : {b kept₀ kept report : List ℕ} {v : Verdict} {refusal : Refusal} (w : Result ℕ Refusal) → Judgeable b → AllJudged b kept₀ v kept → v ≡ Err refusal
+    → IsErrAnd w (λ r. r ≡ refusal) → Gives (calculated b report) (answered w) report
 unfolding calculated
-source-refused {b} {report = report} h j =
-    refused-gives (calculation_tests b) (calculated_report b) report
+source-refused {b} {report = report} w h j =
+    refused-gives (calculation_tests b) (calculated_report b) report w
     (passed_then (register_tests b) (line_test (sources_of b) ∷ mass_test (sources_of b) ∷ []) h.tests ∙ sym j.verdict)
 
 -- where nothing refuses, each equivalent keeps the limit

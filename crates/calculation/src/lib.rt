@@ -2,7 +2,7 @@
 #![tactic(auto)]
 
 ghost use Rattle.std.specs.Prelude.{◌*◌, ◌≤◌, length};
-ghost use Rattle.basis.specs.Answers.{Gives};
+ghost use Rattle.basis.specs.Answers.{answered, Gives};
 ghost use Rattle.meaning.specs.Register.{most_sources};
 ghost use Rattle.meaning.specs.Report.{figure_count};
 ghost use Rattle.meaning.specs.Calls.{calculated};
@@ -10,7 +10,7 @@ ghost use Rattle.register_order.specs.Keys.{keys_for};
 ghost use Rattle.calculation.specs.Keyed.{Keyed};
 
 use answer::answer_of;
-use basis::{Answer, Verdict};
+use basis::{Answer, Refusal};
 use calculation_judge::judge_sources;
 use calculation_write::write_calculated;
 use mass_exact::FIGURES;
@@ -22,86 +22,75 @@ const FEW_SOURCES: usize = 8;
 
 const SOME_SOURCES: usize = 64;
 
+// The room for the figures of as many sources. An array's length cannot be reckoned from a parameter.
+const FEW_FIGURES: usize = FIGURES * FEW_SOURCES;
+
+const SOME_FIGURES: usize = FIGURES * SOME_SOURCES;
+
+const MOST_FIGURES: usize = FIGURES * MOST_SOURCES;
+
 // "5 over all lines, then 6 and 7 source by source in table order, then 8"
-fn judge_and_write(register: &[u8], keys: &[u64], kept: &mut [u64], report: &mut [u8]) -> Answer
+fn judge_and_write(
+    register: &[u8],
+    keys: &[u64],
+    kept: &mut [u64],
+    report: &mut [u8],
+) -> Result<u64, Refusal>
     requires { Keyed register.now keys.now kept.old }
-    ensures { Gives (calculated register.now report.old) result report.new }
+    ensures { Gives (calculated register.now report.old) (answered result) report.new }
 {
-    let verdict = judge_sources(register, kept);
-    let Verdict::Passes = verdict else {
-        return answer_of(verdict, 0);
-    };
+    judge_sources(register, kept)?;
     write_calculated(register, keys, kept, report)
 }
 
 // A calculation in the room given for the keys and for the figures, which also serves to sort the keys.
-fn calculate_in(register: &[u8], keys: &mut [u64], kept: &mut [u64], report: &mut [u8]) -> Answer
+fn calculate_in(
+    register: &[u8],
+    keys: &mut [u64],
+    kept: &mut [u64],
+    report: &mut [u8],
+) -> Result<u64, Refusal>
     requires { (keys_for register.now ≤ length keys.old) × (figure_count * keys_for register.now ≤ length kept.old) }
-    ensures { Gives (calculated register.now report.old) result report.new }
+    ensures { Gives (calculated register.now report.old) (answered result) report.new }
 {
-    let verdict = register_order::test_register(register, keys, kept);
-    let Verdict::Passes = verdict else {
-        return answer_of(verdict, 0);
-    };
+    register_order::test_register(register, keys, kept)?;
     judge_and_write(register, keys, kept, report)
 }
 
-fn calculate_one(register: &[u8], report: &mut [u8]) -> Answer
-    requires { keys_for register.now ≤ 1 }
-    ensures { Gives (calculated register.now report.old) result report.new }
+// A calculation with room for so many sources and figures.
+fn calculate_within<const SOURCES: usize, const KEPT: usize>(
+    register: &[u8],
+    report: &mut [u8],
+) -> Result<u64, Refusal>
+    requires enough { (keys_for register.now ≤ SOURCES) × (figure_count * keys_for register.now ≤ KEPT) }
+    requires at_most { (SOURCES ≤ most_sources) × (KEPT ≤ figure_count * most_sources) }
+    ensures { Gives (calculated register.now report.old) (answered result) report.new }
 {
-    let mut keys = [0u64; 1];
-    let mut kept = [0u64; FIGURES];
-    calculate_in(register, &mut keys, &mut kept, report)
-}
-
-fn calculate_few(register: &[u8], report: &mut [u8]) -> Answer
-    requires { keys_for register.now ≤ 8 }
-    ensures { Gives (calculated register.now report.old) result report.new }
-{
-    let mut keys = [0u64; FEW_SOURCES];
-    let mut kept = [0u64; FIGURES * FEW_SOURCES];
-    calculate_in(register, &mut keys, &mut kept, report)
-}
-
-fn calculate_some(register: &[u8], report: &mut [u8]) -> Answer
-    requires { keys_for register.now ≤ 64 }
-    ensures { Gives (calculated register.now report.old) result report.new }
-{
-    let mut keys = [0u64; SOME_SOURCES];
-    let mut kept = [0u64; FIGURES * SOME_SOURCES];
-    calculate_in(register, &mut keys, &mut kept, report)
-}
-
-fn calculate_many(register: &[u8], report: &mut [u8]) -> Answer
-    requires { keys_for register.now ≤ most_sources }
-    ensures { Gives (calculated register.now report.old) result report.new }
-{
-    let mut keys = [0u64; MOST_SOURCES];
-    let mut kept = [0u64; FIGURES * MOST_SOURCES];
+    let mut keys = [0u64; SOURCES];
+    let mut kept = [0u64; KEPT];
     calculate_in(register, &mut keys, &mut kept, report)
 }
 
 // A calculation in the room that the count of sources wants.
-fn calculate_by_count(register: &[u8], report: &mut [u8]) -> Answer
-    ensures { Gives (calculated register.now report.old) result report.new }
+fn calculate_by_count(register: &[u8], report: &mut [u8]) -> Result<u64, Refusal>
+    ensures { Gives (calculated register.now report.old) (answered result) report.new }
 {
     let count = register_order::keys_for(register);
     if count <= 1 {
-        return calculate_one(register, report);
+        return calculate_within::<1, FIGURES>(register, report);
     }
     if count <= FEW_SOURCES {
-        return calculate_few(register, report);
+        return calculate_within::<FEW_SOURCES, FEW_FIGURES>(register, report);
     }
     if count <= SOME_SOURCES {
-        return calculate_some(register, report);
+        return calculate_within::<SOME_SOURCES, SOME_FIGURES>(register, report);
     }
-    calculate_many(register, report)
+    calculate_within::<MOST_SOURCES, MOST_FIGURES>(register, report)
 }
 
 // "Calculation tests 1, 2 by field, 3 over all sources, 4 over all", and what is behind these.
 pub fn calculate(register: &[u8], report: &mut [u8]) -> Answer
     ensures { Gives (calculated register.now report.old) result report.new }
 {
-    answer::by_parts(calculate_by_count(register, report))
+    answer_of(calculate_by_count(register, report))
 }

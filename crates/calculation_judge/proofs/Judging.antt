@@ -1,4 +1,5 @@
 -- A source of a register that has passed: its lines, its fault, its figures. Assumes nothing.
+use Rattle.std.specs.Prelude.{Result}
 use mathlib.Core.Bool.{true, false}
 use mathlib.Core.List.{List, map, map-map}
 use mathlib.Core.Path.{◌≡◌, sym, ap, ◌∙◌}
@@ -10,9 +11,9 @@ use Rattle.fields.specs.Fields.{Field}
 use Rattle.meaning.specs.Methods.{listed, decoded}
 use Rattle.meaning.specs.Register.{source_count, line_at, source_entry, method_in, parameter_in, first_line_in, line_count_in, source_at, unsound, misplaced, wrong_source, decoded_lines}
 use Rattle.meaning.proofs.Sources.{placed, sound_parts}
-use Rattle.mass_source.specs.declared.JudgedSource.{JudgedSource}
+use Rattle.basis.specs.declared.Refusal.{Refusal}
 use Rattle.mass_sums.specs.Lines.{read_at, read_from, verdict_from, LinesStand}
-use Rattle.mass_source.specs.Source.{Comes}
+use Rattle.mass_source.specs.Source.{Judged, Comes}
 use Rattle.meaning.proofs.Registers.{right-register}
 use Rattle.calculation_judge.specs.Sources.{Judgeable, LinesSpan, ComesAt}
 
@@ -66,7 +67,7 @@ module _ {b : List ℕ} {base i method parameter first end : ℕ} (h : Judgeable
       let e : first_line + lines - first_line ≡ lines = omega arith in
       ap (λ (k : ℕ). map (read_at b m p) (count_up first_line k)) e ∙ sym (map-map (decoded m p) (line_at b) (count_up first_line lines))
 
-  pub comes_at : {r : JudgedSource} → Comes b method parameter first end r → ComesAt b i r
+  pub comes_at : {r : Result Judged Refusal} → Comes b method parameter first end r → ComesAt b i r
   comes_at {r} c =
       let q : first_line + lines - first_line ≡ lines = omega arith in
       let e : end ≡ first_line + lines = omega (arith, s.span.from, s.span.up_to) in

@@ -1,4 +1,6 @@
 -- One pass over the sources of a register that has passed: tests 5 to 7, and the figures kept. Assumes nothing.
+use Rattle.std.specs.Prelude.{None, Ok, Err, IsErrAnd}
+use Rattle.std.specs.Result.{result_unwrap_or}
 use mathlib.Core.Bool.{false}
 use mathlib.Core.List.{List, [], ◌∷◌, ◌++◌, map, append-nil}
 use mathlib.Core.Path.{◌≡◌, refl, sym, ap, ◌∙◌}
@@ -14,12 +16,11 @@ use lib.Dec.{eqb}
 use lib.ListN.{length, get_or, take, drop, length-map, get_or-map, drop_of_length-le}
 use lib.Seq.{drop-cons, take_at}
 use Rattle.basis.specs.Bytes.{Written}
-use Rattle.basis.specs.declared.Verdict.{Verdict}
-use Rattle.basis.specs.declared.Verdict.TheVariants.{Passes, Refuses}
+use Rattle.basis.specs.declared.Refusal.{Refusal}
+use Rattle.basis.specs.Answers.{Verdict, Passes, first_refusal}
 use Rattle.basis.specs.Lists.{Each, count_up, joined}
 use Rattle.basis.specs.First.{first, NoneBelow}
-use Rattle.basis.specs.Answers.{first_refusal}
-use Rattle.basis.proofs.Answers.{never, single_test, passed-at-first, passed_then, refused_then}
+use Rattle.basis.proofs.Answers.{never, single_test, passed-at-first, passed_then, refused_then, passed_up}
 use Rattle.basis.proofs.Bools.{or_false}
 use Rattle.basis.proofs.ByIndex.{same-by_index, joined-last}
 use Rattle.basis.proofs.Bytes.{splice-none, read_inside, length-written, written_then}
@@ -28,9 +29,7 @@ use Rattle.basis.proofs.First.{first-is, first-end}
 use Rattle.basis.proofs.Lists.{length-count_up, at_each}
 use Rattle.basis.proofs.Rows.{row_at, length-rows}
 use Rattle.fields.specs.Fields.{Field}
-use Rattle.meaning.specs.declared.Decoded.{Decoded}
-use Rattle.meaning.specs.declared.Decoded.TheVariants.{Bad}
-use Rattle.meaning.specs.Methods.{refusal_of}
+use Rattle.meaning.specs.Methods.{Decoded, refusal_of}
 use Rattle.meaning.specs.Masses.{masses}
 use Rattle.meaning.specs.Register.{Source, lines_at, source_count, line_count, source_entry, first_line_in, line_count_in, source_at, sources_of, line_start, unsound, misplaced, wrong_source, decoded_lines}
 use Rattle.meaning.specs.Report.{entry_of, figures, figure_count}
@@ -39,8 +38,7 @@ use Rattle.meaning.proofs.Lines.{Following, read_as, all_lines, next_line, lengt
 use Rattle.meaning.proofs.Sources.{Placed, placed, no_source, length-sources, source-at}
 use Rattle.meaning.proofs.Registers.{right-register}
 use Rattle.mass_sums.specs.Lines.{verdict_from}
-use Rattle.mass_source.specs.declared.JudgedSource.{JudgedSource}
-use Rattle.mass_source.specs.Source.{figures_beside}
+use Rattle.mass_source.specs.Source.{Judged, no_figures, fault_in, figures_in, figures_beside}
 use Rattle.calculation_judge.specs.Sources.{Judgeable, LinesSpan, verdict_at, refused_at, ComesAt, waited, kept_of, kept_to, AllJudged}
 use Rattle.calculation_judge.proofs.Waiting.{waited_from, mass_test_lem}
 
@@ -74,7 +72,7 @@ module _ {b : List ℕ} {n i first count : ℕ} (h : Judgeable b) (e : n ≡ sou
 
 -- what each line of the table is answered, from one on; what those of source i are
 unfoldable pub answers_from : List ℕ → ℕ → List Verdict
-answers_from b j = map (λ k. refusal_of (get_or (all_lines b) k Bad) k) (count_up j (line_count b - j))
+answers_from b j = map (λ k. refusal_of (get_or (all_lines b) k None) k) (count_up j (line_count b - j))
 
 abbrev answers_of : List ℕ → ℕ → List Verdict
 answers_of b i = map (λ k. refusal_of (read_as b i k) k) (count_up (first_line_in (source_entry b i)) (line_count_in (source_entry b i)))
@@ -95,7 +93,7 @@ answers_next b h i l =
     let n = next_line b f i l in
     let c = line_count_in (source_entry b i) in
     let left = line_count b - line_start b (i + 1) in
-    let answer : ℕ → Verdict = λ k. refusal_of (get_or (all_lines b) k Bad) k in
+    let answer : ℕ → Verdict = λ k. refusal_of (get_or (all_lines b) k None) k in
     let q : line_count b - line_start b i ≡ c + left = omega (arith, (stands b h i l).lines) in
     let own : map answer (count_up (line_start b i) c) ≡ answers_of b i =
     rw (← e) (same-by_index answer _ c (first_line_in (source_entry b i)) (λ k p m. ap (λ (d : Decoded). refusal_of d k) (line-is b f i k l p m))) in
@@ -182,25 +180,27 @@ passing_none b kept h =
       stored = record { fits = omega arith; is = sym (splice-none kept 0) };
     }
 
-module _ {b kept₀ kept : List ℕ} {w : Verdict} {i : ℕ} {r : JudgedSource} (h : Judgeable b) (s : Passing b kept₀ w kept i) (l : i < source_count b) (c : ComesAt b i r) where
+module _ {b kept₀ kept : List ℕ} {w : Verdict} {i : ℕ} (h : Judgeable b) (s : Passing b kept₀ w kept i) (l : i < source_count b) where
   -- the lines of the source, and then those behind them
   lines_now : line_test (sources_of b) ≡ first_refusal (answers_of b i ++ answers_from b (line_start b (i + 1)))
   lines_now = sym s.lines ∙ ap first_refusal (answers_next b h i l)
 
-  pub passing_bad : {number place : ℕ} → r.verdict ≡ Refuses number place → AllJudged b kept₀ r.verdict kept
+  pub passing_bad : {refusal : Refusal} {v : Verdict} → ComesAt b i (Err refusal) → IsErrAnd v (λ r. r ≡ refusal) → AllJudged b kept₀ v kept
   unfolding verdict_from first_refusal
-  passing_bad {number} {place} e =
-      let v : verdict_at b i ≡ Refuses number place = sym c.verdict ∙ e in
-      let t : line_test (sources_of b) ≡ Refuses number place = lines_now ∙ refused_then (answers_of b i) (answers_from b (line_start b (i + 1))) v in
-      let f : first (refused_at b) (source_count b) ≡ i = first-is (refused_at b) (source_count b) i l s.good (rw v) in
-      record { verdict = e ∙ rw t; left = rw f s.stored; stored = λ p. absurd (never (sym p ∙ e)) }
+  passing_bad {refusal = refusal} {v = v} c u =
+      let e : verdict_at b i ≡ Err refusal = sym c.verdict in
+      let p : v ≡ Err refusal = passed_up v u in
+      let t : line_test (sources_of b) ≡ Err refusal = lines_now ∙ refused_then (answers_of b i) (answers_from b (line_start b (i + 1))) {n = refusal.number} {p = refusal.place} e in
+      let f : first (refused_at b) (source_count b) ≡ i = first-is (refused_at b) (source_count b) i l s.good (rw e) in
+      record { verdict = p ∙ rw t; left = rw f s.stored; stored = λ q. absurd (never (sym q ∙ p)) }
 
-  pub passing_more : {kept' : List ℕ} {w' : Verdict} → r.verdict ≡ Passes → Written kept (figure_count * i) r.figures kept' → w' ≡ waited w r.fault i → Passing b kept₀ w' kept' (i + 1)
+  pub passing_more : {judged : Judged} {kept' : List ℕ} {w' : Verdict} → ComesAt b i (Ok judged) → Written kept (figure_count * i) (figures_in judged) kept'
+      → w' ≡ waited w (fault_in judged) i → Passing b kept₀ w' kept' (i + 1)
   unfolding waited_from verdict_from kept_of
-  passing_more {kept'} {w'} e v u =
-      let t : verdict_at b i ≡ Passes = sym c.verdict ∙ e in
-      let fault : r.fault ≡ mass_fault (source_at b i) = c.fault ∙ rw e in
-      let figures : r.figures ≡ kept_of (source_at b i) = c.figures ∙ rw e in
+  passing_more {judged = judged} {kept'} {w'} c v u =
+      let t : verdict_at b i ≡ Passes = sym c.verdict in
+      let fault : fault_in judged ≡ mass_fault (source_at b i) = c.fault in
+      let figures : figures_in judged ≡ kept_of (source_at b i) = c.figures in
       record {
         low = omega arith;
         size = length-written v ∙ s.size;
@@ -234,4 +234,7 @@ passing_all {b} {kept₀} {kept} {w} {i} h s l =
           ∙ kept-figures (source_at b k) (none_faulty b (sym sums ∙ p) k m);
     }
 
-pub ruleset passing = (begins-first, passing_none, passing_more, passing_all)
+-- zeros are kept of a source that has a fault
+pub figures_or : (judged : Judged) → result_unwrap_or judged no_figures ≡ figures_in judged
+figures_or (Ok figures) = refl
+figures_or (Err fault) = refl

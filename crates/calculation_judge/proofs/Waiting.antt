@@ -1,4 +1,5 @@
 -- The first fault waits, and is what tests 6 and 7 answer. Assumes nothing.
+use Rattle.std.specs.Prelude.{Ok, Err, IsErrAnd}
 use mathlib.Core.Bool.{Bool, true, false}
 use mathlib.Core.List.{List, [], ◌∷◌, map}
 use mathlib.Core.Path.{◌≡◌, refl, sym, ap, ◌∙◌}
@@ -9,27 +10,34 @@ use borrow.Author.Tests.{ne_eqb, lt-ltb, le-ltb}
 use lib.Dec.{eqb, ltb}
 use lib.ListN.{length, get_or, drop}
 use lib.Seq.{drop-drop, get_or-drop}
-use Rattle.basis.specs.declared.Verdict.{Verdict}
-use Rattle.basis.specs.declared.Verdict.TheVariants.{Passes, Refuses}
+use Rattle.basis.specs.declared.Refusal.{Refusal}
+use Rattle.basis.proofs.Answers.{passed_up}
+use Rattle.basis.specs.Answers.{Verdict, Passes, Refuses, refuse_if}
 use Rattle.basis.specs.First.{scan, first}
-use Rattle.basis.specs.Answers.{refuse_if}
 use Rattle.meaning.specs.Register.{Source}
 use Rattle.meaning.specs.Calls.{mass_fault, fault_at, mass_test}
+use Rattle.mass_source.specs.declared.Fault.{Fault}
+use Rattle.mass_source.specs.declared.Fault.TheVariants.{BelowZero, AboveLimit}
+use Rattle.mass_source.specs.Source.{number_of}
 use Rattle.calculation_judge.specs.Sources.{waited}
 
-pub waited-none : (w : Verdict) (fault i : ℕ) → w ≡ Passes → fault ≡ 0 → Passes ≡ waited w fault i
-unfolding waited
-waited-none w fault i e f = rw (e, f)
+-- no fault has number 0
+pub some_fault : (fault : Fault) → number_of fault ≡ 0 → ⊥
+some_fault BelowZero e = omega arith
+some_fault AboveLimit e = omega arith
 
-pub waited-first : (w : Verdict) (fault i : ℕ) → w ≡ Passes → (fault ≡ 0 → ⊥) → Refuses fault i ≡ waited w fault i
+-- no fault passes where none waits, and one that waits stays
+pub waited-passes : {w : Verdict} {done : Unit {0}} (i : ℕ) → w ≡ Ok done → Passes ≡ waited w 0 i
 unfolding waited
-waited-first w fault i e f = rw (e, ne_eqb fault 0 f)
+waited-passes i e = rw e
 
-pub waited-later : (w : Verdict) (fault i n p : ℕ) → w ≡ Refuses n p → w ≡ waited w fault i
+pub waited-first : {w : Verdict} {done : Unit {0}} (fault i : ℕ) → w ≡ Ok done → (fault ≡ 0 → ⊥) → Refuses fault i ≡ waited w fault i
 unfolding waited
-waited-later w fault i n p e = rw e
+waited-first fault i e f = rw (e, ne_eqb fault 0 f)
 
-pub ruleset waiting = (waited-none, waited-first, waited-later)
+pub waited-later : {w v : Verdict} {refusal : Refusal} (fault i : ℕ) → w ≡ Err refusal → IsErrAnd v (λ r. r ≡ refusal) → v ≡ waited w fault i
+unfolding waited
+waited-later {v = v} fault i e u = passed_up v u ∙ rw e
 
 -- faults one behind another, from an index on
 unfoldable pub waited_from : ℕ → List ℕ → Verdict → Verdict

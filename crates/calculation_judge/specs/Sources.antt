@@ -1,18 +1,16 @@
 -- What the sources of a register come to, one by one. Assumes nothing.
-use Rattle.std.specs.Prelude.{Bool, cond, not, List, [], ◌∷◌, map, ◌≡◌, ℕ, ◌+◌, ◌*◌, ◌<◌, eqb, length, take, drop}
-use Rattle.basis.specs.declared.Verdict.TheVariants.{Passes, Refuses}
-use Rattle.basis.specs.declared.Verdict.{Verdict}
+use Rattle.std.specs.Prelude.{Result, Err, Ok, Bool, cond, not, List, [], ◌∷◌, map, ◌≡◌, ℕ, ◌+◌, ◌*◌, ◌<◌, eqb, length, take, drop}
+use Rattle.basis.specs.declared.Refusal.{Refusal}
+use Rattle.basis.specs.Answers.{Passes, Refuses, Verdict, first_refusal, passes}
 use Rattle.basis.specs.Bytes.{Written}
 use Rattle.basis.specs.Lists.{count_up, joined}
 use Rattle.basis.specs.First.{first}
-use Rattle.basis.specs.Answers.{first_refusal, passes}
 use Rattle.register_header.specs.Header.{Headed}
 use Rattle.meaning.specs.Register.{Source, lines_at, source_entry, method_in, parameter_in, first_line_in, line_count_in, source_at, source_count, sources_of, register_tests, decoded_lines}
 use Rattle.meaning.specs.Report.{entry_of, figures, figure_count}
 use Rattle.meaning.specs.Calls.{line_test, mass_test}
 use Rattle.mass_sums.specs.Lines.{verdict_from}
-use Rattle.mass_source.specs.declared.JudgedSource.{JudgedSource}
-use Rattle.mass_source.specs.Source.{fault_after, figures_after}
+use Rattle.mass_source.specs.Source.{Judged, verdict_of, fault_with, figures_with, fault_after, figures_after}
 
 -- a register that tests 1 to 4 have passed
 pub record Judgeable (b : List ℕ) : Type 0 where
@@ -33,16 +31,16 @@ abbrev pub refused_at : List ℕ → ℕ → Bool
 refused_at b i = not (passes (verdict_at b i))
 
 -- source i: its lines are answered, and where they pass its fault and its figures are those of its sums
-pub record ComesAt (b : List ℕ) (i : ℕ) (r : JudgedSource) : Type 0 where
-  pub size : length r.figures ≡ figure_count
-  pub verdict : r.verdict ≡ verdict_at b i
-  pub fault : r.fault ≡ fault_after r.verdict (decoded_lines (source_at b i))
-  pub figures : r.figures ≡ figures_after r.verdict (decoded_lines (source_at b i))
+pub record ComesAt (b : List ℕ) (i : ℕ) (r : Result Judged Refusal) : Type 0 where
+  pub size : length (figures_with r) ≡ figure_count
+  pub verdict : verdict_of r ≡ verdict_at b i
+  pub fault : fault_with r ≡ fault_after (verdict_of r) (decoded_lines (source_at b i))
+  pub figures : figures_with r ≡ figures_after (verdict_of r) (decoded_lines (source_at b i))
 
 -- the first fault waits, with the index of its source
 unfoldable pub waited : Verdict → ℕ → ℕ → Verdict
-waited Passes fault i = cond (eqb fault 0) Passes (Refuses fault i)
-waited (Refuses number place) fault i = Refuses number place
+waited (Ok done) fault i = cond (eqb fault 0) Passes (Refuses fault i)
+waited (Err refusal) fault i = Err refusal
 
 -- the figures of a source, among those of all sources in the order of the table
 abbrev pub Stored : List ℕ → List ℕ → ℕ → Type 0

@@ -1,16 +1,15 @@
 -- The length of a report by the count of sources, and what the call answers by that. Assumes nothing.
+use Rattle.std.specs.Prelude.{Result, Ok, Err, IsErrAnd}
 use mathlib.Core.List.{List, [], ◌∷◌, map}
 use mathlib.Core.Path.{◌≡◌, ap, ◌∙◌}
 use Prim.Native.Nat.{ℕ, ◌≤◌, ◌<◌}
 use native.Mathlib.Omega.{arith}
 use lib.Dec.{ltb}
 use lib.ListN.{length}
-use Rattle.basis.specs.declared.Answer.{Answer}
-use Rattle.basis.specs.declared.Verdict.{Verdict}
-use Rattle.basis.specs.declared.Verdict.TheVariants.{Passes, Refuses}
+use Rattle.basis.specs.declared.Refusal.{Refusal}
+use Rattle.basis.specs.Answers.{Verdict, Passes, Refuses, refuse_if, first_refusal, answered, Gives}
 use Rattle.basis.specs.Bytes.{Written}
 use Rattle.basis.specs.Lists.{Each}
-use Rattle.basis.specs.Answers.{refuse_if, first_refusal, answer, Gives}
 use Rattle.basis.proofs.Lists.{sorted_by-each}
 use Rattle.meaning.specs.Register.{Source, year_of, source_count, sources_of}
 use Rattle.meaning.specs.Report.{entry_of, in_order, report_length}
@@ -46,11 +45,11 @@ module _ (b : List ℕ) (t : first_refusal (calculation_tests b) ≡ Passes) {n 
   pub calculation-room : (report : List ℕ) {v : Verdict} → v ≡ refuse_if (ltb (length report) needed) 8 needed → v ≡ Passes → report_length (source_count b) ≤ length report
   calculation-room report g p = omega (arith, room-there (length report) needed g p, e, f)
 
-  pub calculation-short : {report : List ℕ} {v : Verdict} {k p : ℕ} {a : Answer} → v ≡ refuse_if (ltb (length report) needed) 8 needed → v ≡ Refuses k p → a ≡ answer v 0
-      → Gives (calculated b report) a report
+  pub calculation-short : {report : List ℕ} {v : Verdict} {refusal : Refusal} (w : Result ℕ Refusal) → v ≡ refuse_if (ltb (length report) needed) 8 needed → v ≡ Err refusal
+      → IsErrAnd w (λ r. r ≡ refusal) → Gives (calculated b report) (answered w) report
   unfolding calculated
   calculation-short {report} = short-gives (calculation_tests b) (calculated_report b) report t needed_is
 
-  pub calculation-made : {report left : List ℕ} {a : Answer} → Written report 0 (calculated_report b) left → a ≡ answer Passes needed → Gives (calculated b report) a left
+  pub calculation-made : {report left : List ℕ} → Written report 0 (calculated_report b) left → Gives (calculated b report) (answered (Ok needed)) left
   unfolding calculated
   calculation-made {report} = made-gives (calculation_tests b) (calculated_report b) report t needed_is

@@ -103,12 +103,6 @@ module _ {b keys stored : List ℕ} (r : Ready b keys stored) where
       record { all = f; low = omega arith; left = writing_none xs entries_at (entries_of_keys b (sorted_keys b)) l }
 
   module _ {xs ys : List ℕ} {n k : ℕ} (i : Placing b xs n ys k) where
-    pub placing_source : k < n → k < source_count b
-    placing_source l = omega (arith, i.all)
-
-    pub placing_room : k < n → report_length (source_count b) ≤ length xs → report_length (k + 1) ≤ length ys
-    placing_room l h = omega (arith, i.all, i.left.kept)
-
     pub placing_more : {zs : List ℕ} → k < n → Written ys (report_length k) (entry_bytes (entry_of_key b (get_or keys k 0))) zs → Placing b xs n zs (k + 1)
     unfolding entries_of_keys joined
     placing_more {zs} l w =
@@ -125,8 +119,6 @@ module _ {b keys stored : List ℕ} (r : Ready b keys stored) where
         let s : length (sorted_keys b) ≤ k = omega (arith, i.all, length-sorted_keys b) in
         let w : Written xs entries_at (entries_of_keys b (sorted_keys b)) ys = writing_all (rw (drop_of_length-le (sorted_keys b) s) at i.left) in
         rw (keys_in_order b r.passes) at w
-
-pub ruleset placing = (rules, header_there, placing_none, placing_source, placing_room, placing_more, placing_all)
 
 length-entries_for : (b : List ℕ) → length (entries_for (sources_of b)) ≡ source_count b
 unfolding sources_of

@@ -7,9 +7,8 @@ use native.Mathlib.Decide.{dec_lt}
 use native.Mathlib.Omega.{arith}
 use borrow.Author.Tests.{le-leb, lt-leb}
 use lib.Dec.{leb}
-use Rattle.basis.specs.declared.Verdict.TheVariants.{Passes}
+use Rattle.basis.specs.Answers.{Passes, first_refusal}
 use Rattle.basis.specs.Lists.{count_up, sorted_by}
-use Rattle.basis.specs.Answers.{first_refusal}
 use Rattle.basis.proofs.Lists.{AllAlike, sort_map}
 use Rattle.basis.proofs.ByIndex.{same-by_index, alike_by_index}
 use Rattle.sort_merge.specs.Order.{itself}

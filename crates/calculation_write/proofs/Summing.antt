@@ -7,7 +7,6 @@ use native.Mathlib.Numerals.{add-one}
 use native.Mathlib.Omega.{arith}
 use mir.Syntax.{w64}
 use mir.Val.{Fits}
-use borrow.Author.Rules.{rules}
 use lib.ListN.{length, get_or, drop, replicate, set}
 use lib.Seq.{get_or-take, get_or-drop}
 use Rattle.basis.specs.Lists.{sum, count_up}
@@ -52,9 +51,6 @@ pub totals-none : (figures : List ℕ) → replicate figure_count 0 ≡ totals_o
 unfolding totals_of total sum count_up
 totals-none figures = refl
 
-pub summable_less : {figures : List ℕ} {n i : ℕ} → Summable figures n → i < n → Summable figures (i + 1)
-summable_less h l = record { few = omega (arith, h.few); long = omega (arith, h.long); small = λ j k m. h.small j k (omega arith) }
-
 -- k totals have source i added
 pub record Adding (figures : List ℕ) (i : ℕ) (to₀ to : List ℕ) (k : ℕ) : Type 0 where
   pub before : to₀ ≡ totals_of figures i
@@ -64,11 +60,8 @@ pub adding-none : {figures to : List ℕ} {i : ℕ} → to ≡ totals_of figures
 adding-none {figures} {to} {i} e = record { before = e; filled = filled_none (total figures (i + 1)) to }
 
 module _ {figures to₀ to : List ℕ} {i k : ℕ} (r : Adding figures i to₀ to k) where
-  size : length to ≡ figure_count
-  size = r.filled.kept ∙ ap length r.before ∙ length-totals_of figures i
-
-  pub adding-there : k < figure_count → k < length to
-  adding-there l = omega (arith, size)
+  pub adding-each : length to₀ ≡ figure_count
+  adding-each = ap length r.before ∙ length-totals_of figures i
 
   module _ (h : Summable figures (i + 1)) (l : k < figure_count) where
     is : get_or to k 0 ≡ total figures i k
@@ -82,33 +75,13 @@ module _ {figures to₀ to : List ℕ} {i k : ℕ} (r : Adding figures i to₀ t
     adding_more =
         record {
           before = r.before;
-          filled = filled_more r.filled (adding-there l) (ap (λ (m : ℕ). m + figure_of figures k i) is ∙ sym (total_more figures i k));
+          filled = filled_more r.filled (omega (arith, r.filled.kept, adding-each)) (ap (λ (m : ℕ). m + figure_of figures k i) is ∙ sym (total_more figures i k));
         }
 
   pub adding-all : figure_count ≤ k → to ≡ totals_of figures (i + 1)
   unfolding totals_of
   adding-all l =
-      filled-all r.filled (omega (arith, size))
-      ∙ ap (λ (m : ℕ). map (total figures (i + 1)) (count_up 0 m)) (ap length r.before ∙ length-totals_of figures i)
-
--- the totals of i sources
-pub record Totalled (figures : List ℕ) (n : ℕ) (to : List ℕ) (i : ℕ) : Type 0 where
-  pub low : i ≤ n
-  pub is : to ≡ totals_of figures i
-
-pub totalled_none : (figures to : List ℕ) (n : ℕ) → to ≡ replicate figure_count 0 → Totalled figures n to 0
-totalled_none figures to n e = record { low = omega arith; is = e ∙ totals-none figures }
-
-pub totalled_each : {figures to : List ℕ} {n i : ℕ} → Totalled figures n to i → length to ≡ figure_count
-totalled_each {figures} {to} {n} {i} r = ap length r.is ∙ length-totals_of figures i
-
-pub totalled_more : {figures more : List ℕ} {n i : ℕ} → i < n → more ≡ totals_of figures (i + 1) → Totalled figures n more (i + 1)
-totalled_more l e = record { low = omega arith; is = e }
-
-pub totalled_all : {figures to : List ℕ} {n i : ℕ} → Totalled figures n to i → n ≤ i → to ≡ totals_of figures n
-totalled_all {figures} r l = r.is ∙ ap (totals_of figures) (omega (arith, r.low))
-
-pub ruleset totalling = (rules, summable_less, totalled_each, totalled_more, totalled_all)
+      filled-all r.filled (omega (arith, r.filled.kept, adding-each)) ∙ ap (λ (m : ℕ). map (total figures (i + 1)) (count_up 0 m)) adding-each
 
 module _ {b keys stored : List ℕ} (r : Ready b keys stored) where
   -- the figures of a source, as they are stored

@@ -1,12 +1,10 @@
 -- What a report is written from: keys in ascending order, and figures in the order of the table. Assumes nothing.
 use Rattle.std.specs.Prelude.{List, map, ◌≡◌, ℕ, ◌+◌, ◌*◌, ◌≤◌, ◌<◌, length, get_or, take, drop}
-use Rattle.basis.specs.declared.Verdict.TheVariants.{Passes}
+use Rattle.basis.specs.Answers.{Passes, first_refusal}
 use Rattle.basis.specs.Lists.{sum, count_up}
-use Rattle.basis.specs.Answers.{first_refusal}
 use Rattle.meaning.specs.Masses.{equivalent, limit}
 use Rattle.meaning.specs.Register.{source_count, most_sources, source_at, register_tests}
-use Rattle.meaning.specs.Report.{Entry, entry_of, figure_count}
-use Rattle.meaning.specs.Report.{figures as entry_figures}
+use Rattle.meaning.specs.Report.{Entry, entry_of, figure_count, figures as entry_figures}
 use Rattle.register_order.specs.Keys.{index_of_key, sorted_keys}
 
 -- a register that tests 1 to 4 accept, its keys in ascending order, and the figures of each of its sources, none above the limit

@@ -2,8 +2,7 @@
 #![tactic(auto)]
 
 ghost use Rattle.std.specs.Prelude.{map, ◌≡◌, ◌+◌, ◌≤◌, ◌<◌, length, get_or};
-ghost use Rattle.basis.specs.declared.Verdict.TheVariants.{Passes};
-ghost use Rattle.basis.specs.Answers.{first_refusal, Gives};
+ghost use Rattle.basis.specs.Answers.{Passes, first_refusal, answered, Gives};
 ghost use Rattle.basis.specs.Bytes.{Written};
 ghost use Rattle.basis.specs.Lists.{joined};
 ghost use Rattle.meaning.specs.Register.{source_count, sources_of};
@@ -11,8 +10,7 @@ ghost use Rattle.meaning.specs.Report.{entries_at, report_length, entry_bytes};
 ghost use Rattle.meaning.specs.Calls.{entries_for, calculation_tests, calculated_report, calculated};
 ghost use Rattle.calculation_write.specs.Ready.{Ready, Summable, totals_of, entry_of_key};
 
-use answer::answer_of;
-use basis::{Answer, Verdict};
+use basis::Refusal;
 use mass_exact::FIGURES;
 use register_header::{register_year, source_count};
 use register_layout::source_method;
@@ -24,10 +22,8 @@ fn add_source(totals: &mut [u64], figures: &[u64], i: usize)
     requires { Summable figures.now (i + 1) × (totals.old ≡ totals_of figures.now i) }
     ensures { totals.new ≡ totals_of figures.now (i + 1) }
 {
-    let mut k: usize = 0;
-    while k < FIGURES {
-        totals[k] += figures[FIGURES * i + k];
-        k += 1;
+    for (k, total) in totals.iter_mut().enumerate() {
+        *total += figures[FIGURES * i + k];
     }
 }
 
@@ -37,10 +33,8 @@ fn totals_of(figures: &[u64], n: usize) -> [u64; FIGURES]
     ensures { result ≡ totals_of figures.now n }
 {
     let mut totals = [0u64; FIGURES];
-    let mut i: usize = 0;
-    while i < n {
+    for i in 0..n {
         add_source(&mut totals, figures, i);
-        i += 1;
     }
     totals
 }
@@ -70,11 +64,8 @@ fn put_sources(register: &[u8], keys: &[u64], figures: &[u64], report: &mut [u8]
     requires { Ready register.now keys.now figures.now × (report_length (source_count register.now) ≤ length report.old) }
     ensures { Written report.old entries_at (joined (map entry_bytes (entries_for (sources_of register.now)))) report.new }
 {
-    let n = source_count(register);
-    let mut k: usize = 0;
-    while k < n {
+    for k in 0..source_count(register) {
         put_source(register, keys, k, figures, report);
-        k += 1;
     }
 }
 
@@ -91,15 +82,17 @@ fn write_report(register: &[u8], keys: &[u64], figures: &[u64], report: &mut [u8
 }
 
 // "then 8", and the report of a register that has passed the tests before.
-pub fn write_calculated(register: &[u8], keys: &[u64], figures: &[u64], report: &mut [u8]) -> Answer
+pub fn write_calculated(
+    register: &[u8],
+    keys: &[u64],
+    figures: &[u64],
+    report: &mut [u8],
+) -> Result<u64, Refusal>
     requires { Ready register.now keys.now figures.now × (first_refusal (calculation_tests register.now) ≡ Passes) }
-    ensures { Gives (calculated register.now report.old) result report.new }
+    ensures { Gives (calculated register.now report.old) (answered result) report.new }
 {
     let needed = length_of(source_count(register));
-    let room = answer::test_room(report.len(), needed);
-    let Verdict::Passes = room else {
-        return answer_of(room, 0);
-    };
+    answer::test_room(report.len(), needed)?;
     write_report(register, keys, figures, report);
-    answer::accepted(needed as u64)
+    Ok(needed as u64)
 }

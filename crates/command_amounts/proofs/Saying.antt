@@ -3,7 +3,6 @@ use mathlib.Core.List.{List}
 use mathlib.Core.Path.{◌≡◌, ap, ◌∙◌}
 use Prim.Native.Nat.{ℕ, ◌*◌, ◌/◌, ◌≤◌}
 use native.Mathlib.Omega.{arith}
-use borrow.Author.Rules.{rules}
 use lib.ListN.{length, take}
 use Rattle.basis.specs.declared.Answer.{Answer}
 use Rattle.basis.specs.Answers.{Outcome, Gives}
@@ -42,8 +41,6 @@ module _ (cards buffer : List ℕ) {a : Answer} {left : List ℕ} (g : Gives (am
 
     pub output-refused : (a.number ≡ 0 → ⊥) → Fronted room (refused_line a.number a.place) zs n → Fronted room (amounts_output cards buffer) zs n
     output-refused f w = rw (output-is ∙ said-refused a (amount_lines (take a.length left)) f) w
-
-pub ruleset saying = (rules, amounts-within, amounts-part)
 
 -- what the program says goes by its room of bytes alone
 pub output_alike : (b c : List ℕ) → cards_room ≤ length b → cards_room ≤ length c → (room : List ℕ) → amounts_output b room ≡ amounts_output c room

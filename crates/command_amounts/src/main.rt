@@ -10,7 +10,7 @@ ghost use Rattle.decimal_write.specs.Digits.{Fronted};
 
 use basis::Answer;
 use command_answer::NUMBER_ROOM;
-use command_files::{CARDS_ROOM, Input};
+use command_files::CARDS_ROOM;
 use input_stock_cards::{AMOUNT_LENGTH, LONGEST_AMOUNTS};
 
 // A line for each amount.
@@ -30,12 +30,11 @@ fn put_output(cards: &[u8], amounts: &mut [u8], output: &mut [u8]) -> Said
     ensures fronted { Fronted output.old (amounts_output cards.now amounts.old) output.new result.length }
 {
     let answer = input_stock_cards::amounts(cards, amounts);
-    let number = answer.number;
     let n = answer.length as usize;
-    let length = if number == 0 {
+    let length = if answer.number == 0 {
         command_answer::put_amounts(&amounts[..n], output)
     } else {
-        command_answer::put_refusal(number, answer.place, output)
+        command_answer::put_refusal(answer.number, answer.place, output)
     };
     Said { answer, length }
 }
@@ -48,15 +47,18 @@ fn work_out(rt: HostRuntime, cards: &[u8]) {
     command_files::deliver_saying(rt, said.answer, &amounts, 2, &output[..n]);
 }
 
+// What cannot be read has had its line on standard error, and ends the command.
+fn run(rt: HostRuntime) -> Option<()> {
+    let mut cards = [0u8; CARDS_ROOM];
+    let n = command_files::read_file(rt, 1, &mut cards)?;
+    work_out(rt, &cards[..n]);
+    Some(())
+}
+
 fn main(rt: HostRuntime) {
     if command_files::word_count(rt) != 3 {
         command_files::complain(rt, b"use: amounts CARDS RESULT\n");
         return;
     }
-    let mut cards = [0u8; CARDS_ROOM];
-    let input = command_files::read_file(rt, 1, &mut cards);
-    let Input::Came(n) = input else {
-        return;
-    };
-    work_out(rt, &cards[..n]);
+    run(rt);
 }

@@ -1,18 +1,17 @@
 -- What a call leaves at the front of its buffer, and what a program says of it. Assumes nothing.
+use Rattle.std.specs.Prelude.{Err, Ok}
 use mathlib.Core.List.{List, [], ◌∷◌, ◌++◌}
 use mathlib.Core.Path.{◌≡◌, refl, sym, ap, ◌∙◌}
 use Prim.Native.Nat.{ℕ, ◌≤◌}
 use native.Mathlib.Omega.{arith}
 use lib.ListN.{length, take}
 use Rattle.basis.specs.declared.Answer.{Answer}
-use Rattle.basis.specs.declared.Verdict.{Verdict}
-use Rattle.basis.specs.declared.Verdict.TheVariants.{Passes, Refuses}
-use Rattle.basis.specs.Answers.{first_refusal, settled, Gives}
+use Rattle.basis.specs.Answers.{Verdict, Passes, Refuses, first_refusal, settled, Gives}
 use Rattle.basis.specs.Bytes.{splice, Written}
 use Rattle.basis.proofs.Bytes.{splice-none}
-use Rattle.meaning.specs.Text.{refused_line, accepted_line}
+use Rattle.meaning.specs.Text.{refused_line}
 use Rattle.meaning.specs.Calls.{room_test, written, form_test, text}
-use Rattle.meaning.specs.Programs.{said, answer_line, text_output}
+use Rattle.meaning.specs.Programs.{said, text_output}
 use Rattle.meaning.proofs.Calls.{room-passed}
 use Rattle.meaning.proofs.Programs.{said-made, said-refused}
 use Rattle.decimal_write.specs.Digits.{Fronted}
@@ -22,17 +21,17 @@ use Rattle.report_text.specs.Rows.{text_of}
 settled-front : (v : Verdict) (made buffer : List ℕ) {a : Answer} {left : List ℕ} → (v ≡ Passes → length made ≤ length buffer)
     → Gives (settled v made buffer) a left → Fronted buffer (take a.length left) left a.length
 unfolding settled
-settled-front Passes made buffer h g =
+settled-front (Ok done) made buffer h g =
     let w : Written buffer 0 made (splice buffer 0 made) = record { fits = omega (arith, h refl); is = refl } in
     rw (g.answers, g.leaves) (rw (front-is w refl) (fronted w refl))
-settled-front (Refuses number place) made buffer h g =
+settled-front (Err refusal) made buffer h g =
     let w : Written buffer 0 [] buffer = record { fits = omega arith; is = sym (splice-none buffer 0) } in
     rw (g.answers, g.leaves) (fronted w refl)
 
 settled-kept : (v : Verdict) (made buffer : List ℕ) {a : Answer} {left : List ℕ} → Gives (settled v made buffer) a left → (a.number ≡ 0 → ⊥) → left ≡ buffer
 unfolding settled
-settled-kept Passes made buffer g f = absurd (f (ap (λ (a : Answer). a.number) g.answers))
-settled-kept (Refuses number place) made buffer g f = g.leaves
+settled-kept (Ok done) made buffer g f = absurd (f (ap (λ (a : Answer). a.number) g.answers))
+settled-kept (Err refusal) made buffer g f = g.leaves
 
 -- a call's buffer: what it made stands at the front, and a refusal leaves all as it was
 module _ (tests : List Verdict) (made buffer : List ℕ) {a : Answer} {left : List ℕ} (g : Gives (written tests made buffer) a left) where
@@ -63,13 +62,3 @@ module _ (report room : List ℕ) {a : Answer} {left : List ℕ} (g : Gives (tex
 
     pub text-refused : {zs : List ℕ} {n : ℕ} → Fronted left (refused_line a.number a.place) zs n → Fronted room (text_output report room) zs n
     text-refused w = rw (text-is ∙ said-refused a (take a.length left) f, ← text-kept) w
-
--- the line of an answer goes by its number
-module _ (a : Answer) {xs zs : List ℕ} {n : ℕ} where
-  pub accepted-said : a.number ≡ 0 → Fronted xs (accepted_line a.length) zs n → Fronted xs (answer_line a) zs n
-  accepted-said e f = rw (said-made a (accepted_line a.length) e) f
-
-  pub refused-said : (a.number ≡ 0 → ⊥) → Fronted xs (refused_line a.number a.place) zs n → Fronted xs (answer_line a) zs n
-  refused-said e f = rw (said-refused a (accepted_line a.length) e) f
-
-pub ruleset saying = (text-made, text-refused, accepted-said, refused-said)

@@ -39,13 +39,11 @@ pub fn put_refusal(number: u32, place: u64, output: &mut [u8]) -> usize
 pub fn answer_line(answer: Answer, line: &mut [u8; LINE_ROOM]) -> usize
     ensures { Fronted line.old (answer_line answer) line.new result }
 {
-    let number = answer.number;
-    let place = answer.place;
-    let accepted = answer.length;
-    if number == 0 {
-        return accepted_line(accepted, line);
+    if answer.number == 0 {
+        accepted_line(answer.length, line)
+    } else {
+        put_refusal(answer.number, answer.place, line)
     }
-    put_refusal(number, place, line)
 }
 
 // The text of a report, or the line of its refusal.
@@ -54,11 +52,11 @@ pub fn put_text_or_refusal(report: &[u8], output: &mut [u8]) -> usize
     ensures { Fronted output.old (text_output report.now output.old) output.new result }
 {
     let answer = report_text::text(report, output);
-    let number = answer.number;
-    if number == 0 {
-        return answer.length as usize;
+    if answer.number == 0 {
+        answer.length as usize
+    } else {
+        put_refusal(answer.number, answer.place, output)
     }
-    put_refusal(number, answer.place, output)
 }
 
 // One decimal a line, of amounts of eight bytes each.
@@ -66,13 +64,9 @@ pub fn put_amounts(amounts: &[u8], output: &mut [u8]) -> usize
     requires { 21 * (length amounts.now / amount_length) ≤ length output.old }
     ensures { Fronted output.old (amount_lines amounts.now) output.new result }
 {
-    let n = amounts.len() / AMOUNT_LENGTH;
-    let mut at: usize = 0;
-    let mut i: usize = 0;
-    while i < n {
-        let amount = fields::u64_at(amounts, AMOUNT_LENGTH * i);
-        at = put_field_at(output, at, amount, b'\n');
-        i += 1;
+    let mut at = 0;
+    for amount in amounts.chunks_exact(AMOUNT_LENGTH) {
+        at = put_field_at(output, at, fields::number_at::<8>(amount, 0), b'\n');
     }
     at
 }

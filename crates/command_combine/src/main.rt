@@ -1,7 +1,7 @@
 // `combine FIRST SECOND REPORT`: the report of all entries of two reports, made in a file.
 #![tactic(auto)]
 
-use command_files::{Input, REPORT_ROOM};
+use command_files::REPORT_ROOM;
 
 fn combine(rt: HostRuntime, first: &[u8], second: &[u8]) {
     let mut report = [0u8; REPORT_ROOM];
@@ -9,20 +9,20 @@ fn combine(rt: HostRuntime, first: &[u8], second: &[u8]) {
     command_files::deliver(rt, answer, &report, 3);
 }
 
+// What cannot be read has had its line on standard error, and ends the command.
+fn run(rt: HostRuntime) -> Option<()> {
+    let mut first = [0u8; REPORT_ROOM];
+    let n = command_files::read_file(rt, 1, &mut first)?;
+    let mut second = [0u8; REPORT_ROOM];
+    let m = command_files::read_file(rt, 2, &mut second)?;
+    combine(rt, &first[..n], &second[..m]);
+    Some(())
+}
+
 fn main(rt: HostRuntime) {
     if command_files::word_count(rt) != 4 {
         command_files::complain(rt, b"use: combine FIRST SECOND REPORT\n");
         return;
     }
-    let mut first = [0u8; REPORT_ROOM];
-    let input = command_files::read_file(rt, 1, &mut first);
-    let Input::Came(n) = input else {
-        return;
-    };
-    let mut second = [0u8; REPORT_ROOM];
-    let other = command_files::read_file(rt, 2, &mut second);
-    let Input::Came(m) = other else {
-        return;
-    };
-    combine(rt, &first[..n], &second[..m]);
+    run(rt);
 }

@@ -1,10 +1,8 @@
 -- What a call that makes a file has left is what its answer says. Assumes nothing.
 use mathlib.Core.List.{List}
 use Prim.Native.Nat.{ℕ}
-use borrow.Author.Rules.{rules}
 use Rattle.basis.specs.declared.Answer.{Answer}
-use Rattle.basis.specs.declared.Verdict.{Verdict}
-use Rattle.basis.specs.Answers.{Gives}
+use Rattle.basis.specs.Answers.{Verdict, Gives}
 use Rattle.meaning.specs.Calls.{written, calculation_tests, calculated_report, calculated, combination_tests, combined_report, combined, removal_tests, removed_report, removed, amounts}
 use Rattle.meaning.specs.Cards.{card_tests, amount_bytes}
 use Rattle.command_answer.proofs.Saying.{written-front}
@@ -29,5 +27,3 @@ module _ {a : Answer} {left : List ℕ} where
   pub amounts-front : (cards buffer : List ℕ) → Gives (amounts cards buffer) a left → Front a.length left
   unfolding amounts
   amounts-front cards buffer g = made-front (card_tests cards) (amount_bytes cards) buffer g
-
-pub ruleset delivering = (rules, calculated-front, combined-front, removed-front, amounts-front)

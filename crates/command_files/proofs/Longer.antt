@@ -1,4 +1,5 @@
 -- No register is so long as the room for it, so bytes behind that many do not change what calculation answers. Assumes nothing.
+use Rattle.std.specs.Prelude.{Result, Err, Ok}
 use mathlib.Core.Bool.{not, ◌||◌}
 use mathlib.Core.List.{List, [], ◌∷◌, ◌++◌}
 use mathlib.Core.Path.{◌≡◌, refl, sym, ap, ◌∙◌}
@@ -6,28 +7,22 @@ use Prim.Native.Nat.{ℕ, ◌+◌, ◌≤◌}
 use native.Mathlib.Omega.{arith}
 use borrow.Author.Tests.{ltb-false, le-ltb, ne_eqb}
 use lib.Dec.{eqb, ltb}
-use lib.ListN.{length, take, drop, length-append, length-drop}
-use lib.Seq.{take-append-le, drop-append-le}
+use lib.ListN.{length, take, length-append}
 use Rattle.basis.specs.declared.Answer.{Answer}
-use Rattle.basis.specs.declared.Verdict.{Verdict}
-use Rattle.basis.specs.declared.Verdict.TheVariants.{Passes, Refuses}
-use Rattle.basis.specs.Bytes.{number_of, number_at, starts_with}
-use Rattle.basis.specs.Answers.{Outcome, refuse_if, first_refusal, Gives}
+use Rattle.basis.specs.declared.Refusal.{Refusal}
+use Rattle.basis.specs.Answers.{Verdict, Passes, Refuses, Outcome, refuse_if, first_refusal, Gives}
+use Rattle.basis.specs.Bytes.{number_at, starts_with}
 use Rattle.basis.proofs.Answers.{each-passes, passed_if, if_passed, refused_then}
 use Rattle.basis.proofs.Bools.{or_true}
 use Rattle.meaning.specs.Register.{register_tag, sources_at, most_sources, most_lines, most_name_bytes, sources_of, source_count, line_count, name_bytes, whole_length, length_test, header_tests, source_test, rest_test, repeat_test, register_tests}
 use Rattle.meaning.specs.Calls.{written, line_test, mass_test, calculation_tests, calculated_report, calculated}
 use Rattle.meaning.proofs.Calls.{refused-gives}
 use Rattle.meaning.proofs.Registers.{right_header}
+use Rattle.input_stock_cards.proofs.Parts.{number_in_front}
 
 -- one byte more than the longest register
 abbrev pub register_room : ℕ
 register_room = whole_length most_sources most_lines most_name_bytes + 1
-
-number-front : (k at : ℕ) (xs ys : List ℕ) → at + k ≤ length xs → number_at k (xs ++ ys) at ≡ number_at k xs at
-unfolding number_at
-number-front k at xs ys l =
-    ap number_of (ap (take k) (drop-append-le at xs ys (omega arith)) ∙ take-append-le k (drop at xs) ys (omega (arith, length-drop at xs)))
 
 starts_front : (t xs ys : List ℕ) → length t ≤ length xs → starts_with t (xs ++ ys) ≡ starts_with t xs
 unfolding starts_with
@@ -39,8 +34,8 @@ starts_front (t ∷ ts) (x ∷ xs) ys l = rw (starts_front ts xs ys (omega arith
 same_behind : (ts us vs : List Verdict) → (first_refusal ts ≡ Passes → first_refusal us ≡ first_refusal vs) → first_refusal (ts ++ us) ≡ first_refusal (ts ++ vs)
 unfolding first_refusal
 same_behind [] us vs h = h refl
-same_behind (Passes ∷ ts) us vs h = same_behind ts us vs h
-same_behind (Refuses n p ∷ ts) us vs h = refl
+same_behind (Ok done ∷ ts) us vs h = same_behind ts us vs h
+same_behind (Err refusal ∷ ts) us vs h = refl
 
 -- a header's tests but for that of the whole length, which no such bytes pass
 abbrev field_tests : List ℕ → List Verdict
@@ -78,13 +73,15 @@ same_outcome g h = λ i. record { answer = (sym g.answers ∙ h.answers) i; left
 
 pub refused_alike : (tests others : List Verdict) (made other buffer : List ℕ) {n p : ℕ} → first_refusal tests ≡ Refuses n p → first_refusal others ≡ Refuses n p
     → written tests made buffer ≡ written others other buffer
-refused_alike tests others made other buffer e f = same_outcome (refused-gives tests made buffer e refl refl) (refused-gives others other buffer f refl refl)
+refused_alike tests others made other buffer {n} {p} e f =
+    let w : Result ℕ Refusal = Err (record { number = n; place = p }) in
+    same_outcome (refused-gives tests made buffer w e refl refl) (refused-gives others other buffer w f refl refl)
 
 module _ (xs ys : List ℕ) (l : register_room ≤ length xs) where
   fields_same : field_tests (xs ++ ys) ≡ field_tests xs
   unfolding header_tests
   fields_same =
-      let at : (k p : ℕ) → p + k ≤ register_room → number_at k (xs ++ ys) p ≡ number_at k xs p = λ k p q. number-front k p xs ys (omega arith) in
+      let at : (k p : ℕ) → p + k ≤ register_room → number_at k (xs ++ ys) p ≡ number_at k xs p = λ k p q. number_in_front k xs ys p (omega arith) in
       rw (starts_front register_tag xs ys (omega arith), at 2 4 (omega arith), at 2 6 (omega arith), at 2 8 (omega arith), at 2 10 (omega arith), at 4 12 (omega arith), at 4 16 (omega arith), at 4 20 (omega arith), at 4 24 (omega arith))
 
   passed-same : first_refusal (field_tests xs) ≡ Passes → first_refusal (last_test (xs ++ ys) ∷ []) ≡ first_refusal (last_test xs ∷ [])
@@ -99,8 +96,8 @@ module _ (xs ys : List ℕ) (l : register_room ≤ length xs) where
 
   refused-by : (v : Verdict) → first_refusal (header_tests xs) ≡ v → (report : List ℕ) → calculated (xs ++ ys) report ≡ calculated xs report
   unfolding calculated
-  refused-by Passes e report = let h = right_header xs e in absurd (omega (arith, h.sources, h.lines, h.names, h.filled))
-  refused-by (Refuses n p) e report =
+  refused-by (Ok done) e report = let h = right_header xs e in absurd (omega (arith, h.sources, h.lines, h.names, h.filled))
+  refused-by (Err refusal) e report =
       let m : register_room ≤ length (xs ++ ys) = omega (arith, length-append xs ys) in
       refused_alike (calculation_tests (xs ++ ys)) (calculation_tests xs) (calculated_report (xs ++ ys)) (calculated_report xs) report
       (refused-tests (xs ++ ys) m (header_same ∙ e)) (refused-tests xs l e)

@@ -1,5 +1,6 @@
 -- Two inputs that are longer than a report can be are answered alike by every call on reports, two that are longer than a register can be by the
 -- lookups, and two that are longer than stock cards can be by the call on cards. Assumes nothing.
+use Rattle.std.specs.Prelude.{Err, Ok}
 use mathlib.Core.Bool.{Bool, true, false, and-false}
 use mathlib.Core.List.{List, [], ◌∷◌}
 use mathlib.Core.Path.{◌≡◌, refl}
@@ -8,9 +9,7 @@ use native.Mathlib.Decide.{ℕ_discrete}
 use native.Mathlib.Omega.{arith}
 use borrow.Author.Tests.{lt-ltb, eq-eqb, ne_eqb}
 use lib.ListN.{length}
-use Rattle.basis.specs.declared.Verdict.{Verdict}
-use Rattle.basis.specs.declared.Verdict.TheVariants.{Passes, Refuses}
-use Rattle.basis.specs.Answers.{first_refusal, passes}
+use Rattle.basis.specs.Answers.{Verdict, Passes, Refuses, first_refusal, passes}
 use Rattle.basis.proofs.Bools.{not_both}
 use Rattle.meaning.specs.Register.{register_tests}
 use Rattle.meaning.specs.Report.{well_formed}
@@ -30,8 +29,8 @@ unfolding accepted
 not-accepted b l = by (first_refusal (register_tests b)) refl
   where
     by : (v : Verdict) → first_refusal (register_tests b) ≡ v → passes (first_refusal (register_tests b)) ≡ false
-    by Passes e = let h = (right-register b e).header in absurd (omega (arith, h.sources, h.lines, h.names, h.filled))
-    by (Refuses n p) e = rw e
+    by (Ok done) e = let h = (right-register b e).header in absurd (omega (arith, h.sources, h.lines, h.names, h.filled))
+    by (Err refusal) e = rw e
 
 module _ (b c : List ℕ) (l : report_room ≤ length b) (m : report_room ≤ length c) where
   pub text_alike : (room : List ℕ) → text b room ≡ text c room

@@ -4,15 +4,15 @@
 mod place;
 mod result;
 
-ghost use Rattle.std.specs.Prelude.{◌≡◌, ◌^◌, ◌<◌, IfOk};
+ghost use Rattle.std.specs.Prelude.{◌≡◌, ◌^◌, ◌<◌, IfOk, IfSome};
+ghost use Rattle.std.specs.Result.{result_ok};
 ghost use Rattle.decimal_read.specs.Numerals.{numeral_in};
-ghost use Rattle.command_files.specs.Files.{Front, Within, IfCame, CameFrom};
+ghost use Rattle.command_files.specs.Files.{Front, CameFrom};
 
 use basis::Answer;
 use command_answer::LINE_ROOM;
-use decimal_read::{Numeral, numeral_in};
+use decimal_read::numeral_in;
 use input_stock_cards::LONGEST_CARDS;
-use place::Place;
 use register_header::LONGEST_REGISTER;
 use report_read::LONGEST_REPORT;
 use std::env::FillError;
@@ -35,13 +35,6 @@ pub const PATH_ROOM: usize = 4096;
 
 // The words of any error of the system, and its number behind them.
 const ERROR_ROOM: usize = 128;
-
-// How many bytes came, or that they could not be had, which is no refusal.
-#[derive(Clone, Copy)]
-pub enum Input {
-    Failed,
-    Came(usize),
-}
 
 // Standard error is the last place where anything can be said, so that it cannot be written is said nowhere.
 fn tell(rt: HostRuntime, words: &[u8]) {
@@ -74,6 +67,19 @@ pub fn fail(rt: HostRuntime, what: &[u8], error: io::Error)
     tell(rt, b"\n");
 }
 
+// What a call of the system came to. Where it has failed, a line on standard error says so.
+fn or_fail<T: Drop>(rt: HostRuntime, what: &[u8], outcome: io::Result<T>) -> Option<T>
+    ensures { result ≡ result_ok outcome }
+{
+    match outcome {
+        Ok(value) => Some(value),
+        Err(error) => {
+            fail(rt, what, error);
+            None
+        }
+    }
+}
+
 // An error in the system's words alone, without the number that std puts behind them.
 fn tell_error(rt: HostRuntime, error: io::Error) {
     let mut text = Cursor::new([0u8; ERROR_ROOM]);
@@ -87,24 +93,18 @@ fn tell_error(rt: HostRuntime, error: io::Error) {
     tell(rt, alone.as_bytes());
 }
 
-fn complain_unless(rt: HostRuntime, written: io::Result<()>) {
-    if let Err(error) = written {
-        fail(rt, b"standard output", error);
-    }
-}
-
 // All that a command has to say on standard output.
 pub fn say(rt: HostRuntime, text: &[u8])
     ensures { text.now ≡ text.now }
 {
-    complain_unless(rt, rt.write_all(text));
+    or_fail(rt, b"standard output", rt.write_all(text));
 }
 
 // Bytes and the line feed behind them, on standard output.
 pub fn say_line(rt: HostRuntime, text: &[u8])
     ensures { text.now ≡ text.now }
 {
-    complain_unless(rt, write_line(rt, text));
+    or_fail(rt, b"standard output", write_line(rt, text));
 }
 
 fn write_line(rt: HostRuntime, text: &[u8]) -> io::Result<()> {
@@ -112,7 +112,7 @@ fn write_line(rt: HostRuntime, text: &[u8]) -> io::Result<()> {
     rt.write_all(b"\n")
 }
 
-// Reads until the input ends or the room is full.
+// Reads until the input ends or the room is full. A read brings as many bytes as it likes, so this counts no index.
 fn fill_room<R: Read>(reader: &mut R, room: &mut [u8]) -> io::Result<usize>
     ensures front { IfOk result (λ n. Front n room.new) }
     ensures bytes { IfOk result (λ n. CameFrom (R.remaining reader.old) (R.remaining reader.new) n room.new) }
@@ -129,132 +129,100 @@ fn fill_room<R: Read>(reader: &mut R, room: &mut [u8]) -> io::Result<usize>
 }
 
 // Reads what has a name until it ends or the room is full. Where that fails, a line on standard error says so.
-pub fn read_all<R: Read>(rt: HostRuntime, what: &[u8], reader: &mut R, room: &mut [u8]) -> Input
-    ensures within { Within result room.new }
-    ensures bytes { IfCame result (λ n. CameFrom (R.remaining reader.old) (R.remaining reader.new) n room.new) }
+pub fn read_all<R: Read>(
+    rt: HostRuntime,
+    what: &[u8],
+    reader: &mut R,
+    room: &mut [u8],
+) -> Option<usize>
+    ensures within { IfSome result (λ n. Front n room.new) }
+    ensures bytes { IfSome result (λ n. CameFrom (R.remaining reader.old) (R.remaining reader.new) n room.new) }
 {
-    match fill_room(reader, room) {
-        Ok(n) => Input::Came(n),
-        Err(error) => {
-            fail(rt, what, error);
-            Input::Failed
-        }
-    }
+    or_fail(rt, what, fill_room(reader, room))
 }
 
 fn is_word(rt: HostRuntime, i: usize) -> bool {
-    match rt.arg(i, &mut []) {
-        Err(FillError::NotPresent) => false,
-        _ => true,
-    }
+    !matches!(rt.arg(i, &mut []), Err(FillError::NotPresent))
 }
 
 // How many words the command line has, the program's name among them.
 pub fn word_count(rt: HostRuntime) -> usize
     ensures { result < 2 ^ 64 }
 {
-    for i in 0..usize::MAX {
-        if !is_word(rt, i) {
-            return i;
-        }
-    }
-    usize::MAX
+    (0..usize::MAX).take_while(|i| is_word(rt, *i)).count()
 }
 
 // Word i of the command line, whole. Where it cannot be had, a line on standard error says so.
-pub fn read_word(rt: HostRuntime, i: usize, room: &mut [u8]) -> Input
-    ensures { Within result room.new }
+pub fn read_word(rt: HostRuntime, i: usize, room: &mut [u8]) -> Option<usize>
+    ensures { IfSome result (λ n. Front n room.new) }
 {
     match rt.arg(i, room) {
-        Ok(n) => Input::Came(n),
+        Ok(n) => Some(n),
         Err(FillError::NotPresent) => {
             complain(rt, b"a word of the command: Invalid argument\n");
-            Input::Failed
+            None
         }
         Err(FillError::TooLong) => {
             complain(rt, b"a word of the command: File name too long\n");
-            Input::Failed
+            None
         }
     }
 }
 
 // A path as std takes it, which is text.
 fn path_text(path: &[u8]) -> io::Result<&str> {
-    match str::from_utf8(path) {
-        Ok(text) => Ok(text),
-        Err(_) => Err(io::Error::from(ErrorKind::InvalidFilename)),
-    }
+    str::from_utf8(path).map_err(|_| io::Error::from(ErrorKind::InvalidFilename))
 }
 
 fn open_to_read(rt: HostRuntime, path: &[u8]) -> io::Result<File> {
     File::open(&rt, path_text(path)?)
 }
 
-fn read_path(rt: HostRuntime, path: &[u8], room: &mut [u8]) -> Input
-    ensures { Within result room.new }
+fn read_path(rt: HostRuntime, path: &[u8], room: &mut [u8]) -> Option<usize>
+    ensures { IfSome result (λ n. Front n room.new) }
 {
-    match open_to_read(rt, path) {
-        Ok(mut file) => read_all(rt, path, &mut file, room),
-        Err(error) => {
-            fail(rt, path, error);
-            Input::Failed
-        }
-    }
+    let mut file = or_fail(rt, path, open_to_read(rt, path))?;
+    read_all(rt, path, &mut file, room)
 }
 
 // Word i, which names a file. Where it cannot be had or is empty, a line on standard error says so.
-fn read_file_name(rt: HostRuntime, i: usize, room: &mut [u8]) -> Input
-    ensures { Within result room.new }
+fn read_file_name(rt: HostRuntime, i: usize, room: &mut [u8]) -> Option<usize>
+    ensures { IfSome result (λ n. Front n room.new) }
 {
-    let word = read_word(rt, i, room);
-    let Input::Came(n) = word else {
-        return Input::Failed;
-    };
+    let n = read_word(rt, i, room)?;
     if n == 0 {
         complain(rt, b"a file name of the command is empty\n");
-        return Input::Failed;
+        return None;
     }
-    Input::Came(n)
+    Some(n)
 }
 
 // The file that word i names. Where it cannot be read, a line on standard error says so.
-pub fn read_file(rt: HostRuntime, i: usize, room: &mut [u8]) -> Input
-    ensures { Within result room.new }
+pub fn read_file(rt: HostRuntime, i: usize, room: &mut [u8]) -> Option<usize>
+    ensures { IfSome result (λ n. Front n room.new) }
 {
     let mut path = [0u8; PATH_ROOM];
-    let word = read_file_name(rt, i, &mut path);
-    let Input::Came(n) = word else {
-        return Input::Failed;
-    };
+    let n = read_file_name(rt, i, &mut path)?;
     read_path(rt, &path[..n], room)
 }
 
 // The number that a word says. Where it is none, a line on standard error says so.
-pub fn number_said(rt: HostRuntime, word: &[u8]) -> Numeral
+pub fn number_said(rt: HostRuntime, word: &[u8]) -> Option<u32>
     ensures { result ≡ numeral_in word.now }
 {
     let numeral = numeral_in(word);
-    if let Numeral::NoNumber = numeral {
+    if numeral.is_none() {
         complain_of(rt, word, b": no number from 0 to 4294967295\n");
     }
     numeral
 }
 
 // The file that word i names is made. Where it cannot be, a line on standard error says so, and what stood there stays.
-fn store_file(rt: HostRuntime, i: usize, bytes: &[u8]) -> bool {
+fn store_file(rt: HostRuntime, i: usize, bytes: &[u8]) -> Option<()> {
     let mut path = [0u8; PATH_ROOM];
-    let word = read_file_name(rt, i, &mut path);
-    let Input::Came(n) = word else {
-        return false;
-    };
-    let end = place::follow_links(rt, &mut path, n);
-    let Input::Came(m) = end else {
-        return false;
-    };
-    let place = place::judge_place(rt, &path[..m]);
-    if let Place::Barred = place {
-        return false;
-    }
+    let n = read_file_name(rt, i, &mut path)?;
+    let m = place::follow_links(rt, &mut path, n)?;
+    let place = place::judge_place(rt, &path[..m])?;
     result::store(rt, &path[..m], place, bytes)
 }
 
@@ -263,11 +231,9 @@ pub fn deliver_saying(rt: HostRuntime, answer: Answer, made: &[u8], i: usize, te
     requires { Front answer.length made.now }
     ensures { made.now ≡ made.now }
 {
-    let number = answer.number;
-    if number == 0 {
+    if answer.number == 0 {
         let n = answer.length as usize;
-        let kept = store_file(rt, i, &made[..n]);
-        if !kept {
+        if store_file(rt, i, &made[..n]).is_none() {
             return;
         }
     }

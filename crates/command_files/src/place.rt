@@ -1,9 +1,9 @@
 // The place of a result: what stands there, and where links lead from it.
-ghost use Rattle.std.specs.Prelude.{◌≡◌, ◌≤◌, IfOk, None, length};
-ghost use Rattle.command_files.specs.Files.{Front, Within};
+ghost use Rattle.std.specs.Prelude.{◌≡◌, ◌≤◌, IfOk, IfSome, None, length};
+ghost use Rattle.command_files.specs.Files.{Front};
 ghost use Rattle.command_files.specs.Places.{front_judged, Spared, is_slash, folder_length, text_at, Led};
 
-use crate::{Input, PATH_ROOM, complain_of, fail, fill_room, path_text};
+use crate::{PATH_ROOM, complain_of, fill_room, or_fail, path_text};
 use std::fs::{File, OpenOptions};
 use std::io::ErrorKind;
 use std::os::unix::fs::MetadataExt;
@@ -18,31 +18,27 @@ const PLAIN: u32 = 0o100000;
 // The system follows so many links at most.
 const LINKS: usize = 40;
 
-// What no result replaces; nothing; or a plain file, with its mode.
+// What a result may take the place of: nothing, or a plain file with its mode. This is no Option, since where a place is barred there is no Place at
+// all, and a None in a None would not say which it is.
 #[derive(Clone, Copy)]
 pub enum Place {
-    Barred,
     Free,
     Plain(u32),
 }
 
 // The mode of an open file, its kind among the bits; 0 where it cannot be had.
 fn mode_of(file: &File) -> u32 {
-    match file.metadata() {
-        Ok(metadata) => metadata.mode(),
-        Err(_) => 0,
-    }
+    file.metadata().map_or(0, |metadata| metadata.mode())
 }
 
 // A plain file by its first bytes and its mode: a register is never replaced.
-fn judge_front(front: &[u8; 4], mode: u32) -> Place
-    requires { 4 ≤ length front.now }
+fn judge_front(front: &[u8; 4], mode: u32) -> Option<Place>
     ensures { result ≡ front_judged front.now mode }
 {
     if register_header::is_tagged(front) {
-        return Place::Barred;
+        return None;
     }
-    Place::Plain(mode)
+    Some(Place::Plain(mode))
 }
 
 fn is_plain(mode: u32) -> bool {
@@ -50,16 +46,15 @@ fn is_plain(mode: u32) -> bool {
 }
 
 // What is no plain file is not replaced, as a rename would. A line on standard error says why a place is barred.
-fn judge_found(rt: HostRuntime, front: &[u8; 4], mode: u32, path: &[u8]) -> Place
-    requires { 4 ≤ length front.now }
+fn judge_found(rt: HostRuntime, front: &[u8; 4], mode: u32, path: &[u8]) -> Option<Place>
     ensures { Spared front.now result }
 {
     if !is_plain(mode) {
         complain_of(rt, path, b": no plain file, so no result takes its place\n");
-        return Place::Barred;
+        return None;
     }
     let place = judge_front(front, mode);
-    if let Place::Barred = place {
+    if place.is_none() {
         complain_of(rt, path, b": a register, and no result takes its place\n");
     }
     place
@@ -90,28 +85,19 @@ fn look_into(mut file: File, front: &mut [u8]) -> io::Result<u32> {
     Ok(mode)
 }
 
-fn judge_file(rt: HostRuntime, file: File, path: &[u8]) -> Place {
+fn judge_file(rt: HostRuntime, file: File, path: &[u8]) -> Option<Place> {
     let mut front = [0u8; 4];
-    match look_into(file, &mut front) {
-        Ok(mode) => judge_found(rt, &front, mode, path),
-        Err(error) => {
-            fail(rt, path, error);
-            Place::Barred
-        }
-    }
+    let mode = or_fail(rt, path, look_into(file, &mut front))?;
+    judge_found(rt, &front, mode, path)
 }
 
 // What stands at a path that is no link. A file that may not be read and written is not replaced: what cannot be read may be a register.
-pub fn judge_place(rt: HostRuntime, path: &[u8]) -> Place
+pub fn judge_place(rt: HostRuntime, path: &[u8]) -> Option<Place>
     ensures { path.now ≡ path.now }
 {
     match open_to_update(rt, path) {
-        Ok(file) => judge_file(rt, file, path),
-        Err(error) if error.kind() == ErrorKind::NotFound => Place::Free,
-        Err(error) => {
-            fail(rt, path, error);
-            Place::Barred
-        }
+        Err(error) if error.kind() == ErrorKind::NotFound => Some(Place::Free),
+        opened => judge_file(rt, or_fail(rt, path, opened)?, path),
     }
 }
 
@@ -137,81 +123,64 @@ fn read_link(rt: HostRuntime, path: &[u8]) -> io::Result<Option<PathBuf>> {
     }
 }
 
-// How much of a path, the first n bytes of its room, names its folder, with the slash.
-fn folder_length(room: &[u8], n: usize) -> usize
-    requires { n ≤ length room.now }
-    ensures { result ≡ folder_length room.now n }
+// How much of a path names its folder, with the slash.
+fn folder_length(path: &[u8]) -> usize
+    ensures { result ≡ folder_length path.now (length path.now) }
 {
-    let mut end = n;
-    while 0 < end {
-        let slash = room[end - 1] == b'/';
-        if slash {
-            return end;
-        }
-        end -= 1;
-    }
-    0
+    path.iter()
+        .rposition(|byte| *byte == b'/')
+        .map_or(0, |slash| slash + 1)
 }
 
 // Whether a path begins at the root.
 fn is_rooted(path: &[u8]) -> bool
     ensures { result ≡ is_slash path.now 0 }
 {
-    if path.len() == 0 {
-        return false;
-    }
-    path[0] == b'/'
+    path.starts_with(b"/")
 }
 
 // Where the text of a link goes in the link's own path.
-fn text_at(text: &[u8], room: &[u8], n: usize) -> usize
-    requires { n ≤ length room.now }
-    ensures { result ≡ text_at text.now room.now n }
+fn text_at(text: &[u8], path: &[u8]) -> usize
+    ensures { result ≡ text_at text.now path.now (length path.now) }
 {
     if is_rooted(text) {
-        return 0;
+        0
+    } else {
+        folder_length(path)
     }
-    folder_length(room, n)
 }
 
-// Puts the text of a link into the link's own path, which then is the one that it leads to, and says how long that is.
-fn put_link(rt: HostRuntime, text: &[u8], room: &mut [u8], n: usize) -> Input
+// Puts the text of a link into the link's own path, the first n bytes of its room. The path then is the one that the link leads to, so long as is
+// said, or as it was if there is no room for that one.
+fn put_link(text: &[u8], room: &mut [u8], n: usize) -> Option<usize>
     requires { n ≤ length room.old }
     ensures { Led text.now room.old n result room.new }
 {
-    let at = text_at(text, room, n);
+    let at = text_at(text, &room[..n]);
     if room.len() - at <= text.len() {
-        complain_of(rt, &room[..n], b": a link to a path that is too long\n");
-        return Input::Failed;
+        return None;
     }
     fields::put_bytes(room, at, text);
-    Input::Came(at + text.len())
+    Some(at + text.len())
 }
 
 // Puts in the place of a path, the first n bytes of its room, the one to which links lead from it, and says how long that is.
-pub fn follow_links(rt: HostRuntime, room: &mut [u8], n: usize) -> Input
+pub fn follow_links(rt: HostRuntime, room: &mut [u8], n: usize) -> Option<usize>
     requires { n ≤ length room.old }
-    ensures { Within result room.new }
+    ensures { IfSome result (λ m. Front m room.new) }
 {
     let mut end = n;
-    let mut links: usize = 0;
-    while links <= LINKS {
-        match read_link(rt, &room[..end]) {
-            Ok(Some(link)) => {
-                let led = put_link(rt, link.as_str().as_bytes(), room, end);
-                let Input::Came(k) = led else {
-                    return Input::Failed;
-                };
-                end = k;
-            }
-            Ok(None) => return Input::Came(end),
-            Err(error) => {
-                fail(rt, &room[..end], error);
-                return Input::Failed;
-            }
-        }
-        links += 1;
+    for _ in 0..=LINKS {
+        let link = read_link(rt, &room[..end]);
+        let Some(link) = or_fail(rt, &room[..end], link)? else {
+            return Some(end);
+        };
+        let Some(led) = put_link(link.as_str().as_bytes(), room, end) else {
+            complain_of(rt, &room[..end], b": a link to a path that is too long\n");
+            return None;
+        };
+        end = led;
     }
     complain_of(rt, &room[..end], b": too many links\n");
-    Input::Failed
+    None
 }

@@ -1,10 +1,10 @@
 // A result in a file: made beside its place, filled, and put there whole.
-ghost use Rattle.std.specs.Prelude.{◌≡◌, ◌+◌, ◌≤◌, length};
+ghost use Rattle.std.specs.Prelude.{◌≡◌, ◌+◌, ◌≤◌, IfSome, length};
 ghost use Rattle.decimal_write.specs.Digits.{Fronted};
-ghost use Rattle.command_files.specs.Files.{Named, beside};
+ghost use Rattle.command_files.specs.Files.{Front, beside};
 
 use crate::place::Place;
-use crate::{PATH_ROOM, complain_of, fail, path_text};
+use crate::{PATH_ROOM, complain_of, or_fail, path_text};
 use std::fs::{File, OpenOptions, Permissions};
 use std::io::{ErrorKind, Write};
 use std::os::unix::fs::PermissionsExt;
@@ -18,13 +18,6 @@ const TRIES: u64 = 1000;
 
 // The bits of a mode that say who may read, write and run a file.
 const PERMISSIONS: u32 = 0o777;
-
-// A new file, and the length of its name.
-#[derive(Drop)]
-enum Made {
-    Nothing,
-    Open(File, usize),
-}
 
 // A name beside a path, and so in the same folder, from where a rename puts the file in its place at once.
 fn put_beside(path: &[u8], number: u64, name: &mut [u8]) -> usize
@@ -48,30 +41,24 @@ fn create(rt: HostRuntime, name: &[u8]) -> io::Result<File> {
         .open(&rt, path_text(name)?)
 }
 
-// A new file beside a path. Where none can be made, a line on standard error says so.
-fn create_beside(rt: HostRuntime, path: &[u8], name: &mut [u8]) -> Made
+// A new file beside a path, and the length of its name. Where none can be made, a line on standard error says so.
+fn create_beside(rt: HostRuntime, path: &[u8], name: &mut [u8]) -> Option<(File, usize)>
     requires { length path.now + 26 ≤ length name.old }
-    ensures { Named result name.new }
+    ensures { IfSome result (λ made. Front made.1 name.new) }
 {
-    let mut number: u64 = 0;
-    while number < TRIES {
+    for number in 0..TRIES {
         let n = put_beside(path, number, name);
         match create(rt, &name[..n]) {
-            Ok(file) => return Made::Open(file, n),
             Err(error) if error.kind() == ErrorKind::AlreadyExists => {}
-            Err(error) => {
-                fail(rt, path, error);
-                return Made::Nothing;
-            }
+            created => return Some((or_fail(rt, path, created)?, n)),
         }
-        number += 1;
     }
     complain_of(
         rt,
         path,
         b": a thousand files lie beside it that killed commands left, its name with .new-0~ to .new-999~ behind it; delete them\n",
     );
-    Made::Nothing
+    None
 }
 
 // A result has the permissions of the file that it replaces.
@@ -110,21 +97,17 @@ fn fill_in_place(
     put_in_place(rt, name, path)
 }
 
-// A result in the place of what stood there, whole or not at all.
-pub fn store(rt: HostRuntime, path: &[u8], place: Place, bytes: &[u8]) -> bool
+// A result in the place of what stood there, whole or not at all. Where it cannot be put there, a line on standard error says so.
+pub fn store(rt: HostRuntime, path: &[u8], place: Place, bytes: &[u8]) -> Option<()>
     requires { length path.now ≤ 4096 }
     ensures { bytes.now ≡ bytes.now }
 {
     let mut room = [0u8; NAME_ROOM];
-    let Made::Open(file, n) = create_beside(rt, path, &mut room) else {
-        return false;
-    };
-    match fill_in_place(rt, file, bytes, &room[..n], path, place) {
-        Ok(()) => true,
-        Err(error) => {
-            fail(rt, path, error);
-            let _ = remove(rt, &room[..n]);
-            false
-        }
+    let (file, n) = create_beside(rt, path, &mut room)?;
+    let filled = fill_in_place(rt, file, bytes, &room[..n], path, place);
+    let stored = or_fail(rt, path, filled);
+    if stored.is_none() {
+        let _ = remove(rt, &room[..n]);
     }
+    stored
 }

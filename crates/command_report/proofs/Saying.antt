@@ -2,7 +2,6 @@
 use mathlib.Core.List.{List, ◌++◌}
 use mathlib.Core.Path.{◌≡◌, ap, ◌∙◌}
 use Prim.Native.Nat.{ℕ, ◌≤◌}
-use borrow.Author.Rules.{rules}
 use lib.ListN.{length, take, replicate}
 use Rattle.basis.specs.declared.Answer.{Answer}
 use Rattle.basis.specs.Answers.{Outcome, Gives}
@@ -35,8 +34,6 @@ module _ (register : List ℕ) {a : Answer} {left : List ℕ} (g : Gives (calcul
 
     pub output-refused : (a.number ≡ 0 → ⊥) → Fronted room (refused_line a.number a.place) zs n → Fronted room (output register room) zs n
     output-refused f w = rw (output-is room ∙ said-refused a (text_output (take a.length left) room) f) w
-
-pub ruleset saying = (rules, report-within, report-part)
 
 -- what the program says goes by its room of bytes alone
 pub output-same : (xs ys : List ℕ) → register_room ≤ length xs → (room : List ℕ) → output (xs ++ ys) room ≡ output xs room

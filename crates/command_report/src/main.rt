@@ -6,7 +6,7 @@ ghost use Rattle.std.specs.Prelude.{◌≤◌, length};
 ghost use Rattle.meaning.specs.Programs;
 ghost use Rattle.decimal_write.specs.Digits.{Fronted};
 
-use command_files::{Input, REGISTER_ROOM, REPORT_ROOM};
+use command_files::{REGISTER_ROOM, REPORT_ROOM};
 use report_text::TEXT_ROOM;
 
 // All that the program says of a register, put to the front of the output's room.
@@ -16,12 +16,12 @@ fn put_output(register: &[u8], output: &mut [u8]) -> usize
 {
     let mut report = [0u8; REPORT_ROOM];
     let answer = calculation::calculate(register, &mut report);
-    let number = answer.number;
-    if number == 0 {
+    if answer.number == 0 {
         let n = answer.length as usize;
-        return command_answer::put_text_or_refusal(&report[..n], output);
+        command_answer::put_text_or_refusal(&report[..n], output)
+    } else {
+        command_answer::put_refusal(answer.number, answer.place, output)
     }
-    command_answer::put_refusal(number, answer.place, output)
 }
 
 fn say_output(rt: HostRuntime, register: &[u8]) {
@@ -30,11 +30,14 @@ fn say_output(rt: HostRuntime, register: &[u8]) {
     command_files::say(rt, &output[..n]);
 }
 
-fn main(rt: HostRuntime) {
+// What cannot be read has had its line on standard error, and ends the command.
+fn run(rt: HostRuntime) -> Option<()> {
     let mut register = [0u8; REGISTER_ROOM];
-    let input = command_files::read_all(rt, b"standard input", &mut rt.stdin(), &mut register);
-    let Input::Came(n) = input else {
-        return;
-    };
+    let n = command_files::read_all(rt, b"standard input", &mut rt.stdin(), &mut register)?;
     say_output(rt, &register[..n]);
+    Some(())
+}
+
+fn main(rt: HostRuntime) {
+    run(rt);
 }

@@ -1,5 +1,5 @@
 -- Decimal numbers as they are put, eight digits at a time from the last to the first. Assumes nothing.
-use mathlib.Core.List.{List, [], ◌∷◌, ◌++◌, append_assoc, append-nil}
+use mathlib.Core.List.{List, [], ◌∷◌, ◌++◌, append_assoc}
 use mathlib.Core.Path.{◌≡◌, refl, sym, ap, ◌∙◌}
 use Prim.Native.Nat.{ℕ, zero, suc, ◌+◌, ◌-◌, ◌/◌, ◌%◌, ◌≤◌, ◌<◌}
 use native.Mathlib.Decide.{dec_lt}
@@ -141,13 +141,7 @@ pub record Spelling (b₀ : List ℕ) (end n : ℕ) (b : List ℕ) (p rest : ℕ
   pub put : Put b₀ p done b end
   pub whole : decimal rest ++ done ≡ decimal n
 
-pub spelling_none : (b : List ℕ) (end n : ℕ) → Ends b (decimal n) end → Spelling b end n b end n
-spelling_none b end n h = record { room = h.short; done = []; put = put_none b end h.within; whole = append-nil (decimal n) }
-
 module _ {b₀ : List ℕ} {end n : ℕ} {b : List ℕ} {p rest : ℕ} (s : Spelling b₀ end n b p rest) where
-  pub spelling_kept : length b ≡ length b₀
-  spelling_kept = s.put.same
-
   pub spelling_some : 8 ≤ p
   spelling_some = omega (arith, s.room, s.put.ends, ap length s.whole, length-append (decimal rest) s.done, some-digit rest)
 
@@ -155,9 +149,6 @@ module _ {b₀ : List ℕ} {end n : ℕ} {b : List ℕ} {p rest : ℕ} (s : Spel
   spelling_at = omega (arith, spelling_some, s.put.same, s.put.within, s.put.ends)
 
   module _ (v : ℕ) {c : List ℕ} (w : Written b (p - 8) (bytes_of 8 v) c) where
-    pub spelling_same : length c ≡ length b₀
-    spelling_same = length-written w ∙ spelling_kept
-
     pub spelling_more : 100000000 ≤ rest → v ≡ number_of (eight_digits (rest % 100000000)) → Spelling b₀ end n c (p - 8) (rest / 100000000)
     spelling_more h e =
         record {
@@ -175,6 +166,3 @@ module _ {b₀ : List ℕ} {end n : ℕ} {b : List ℕ} {p rest : ℕ} (s : Spel
         let a : eight_digits rest ++ s.done ≡ t.zeros ++ decimal n =
         rw t.is (append_assoc t.zeros (decimal rest) s.done) ∙ ap (λ (ds : List ℕ). t.zeros ++ ds) s.whole in
         put_tail t.zeros (decimal n) (rw a at (put_before s.put (eight_put spelling_some h w e))) (omega (arith, d.count, s.room))
-
-  pub spelling_within : {k : ℕ} → Counted n k → k ≤ end
-  spelling_within d = omega (arith, d.count, s.room)

@@ -1,5 +1,5 @@
 -- Eight digits in a word: several numbers stand in it, and one product divides them all. Assumes nothing.
-use mathlib.Core.Path.{◌≡◌, ap, ◌∙◌}
+use mathlib.Core.Path.{◌≡◌, ◌∙◌}
 use mathlib.Core.List.{◌++◌}
 use Prim.Native.Nat.{ℕ, ◌+◌, ◌*◌, ◌-◌, ◌/◌, ◌%◌, ◌≤◌, ◌<◌}
 use native.Mathlib.Omega.{arith}
@@ -9,57 +9,9 @@ use borrow.Author.Rules.{rules}
 use Rattle.basis.specs.Bytes.{number_of}
 use Rattle.decimal_write.specs.Words.{quarters, Paired, first_digits, two_digits, eight_digits}
 
--- what stands in the lowest bits, below multiples of what they count up to
-low_128 : (q k : ℕ) → q < 128 → (q + 128 * k) % 128 ≡ q
-low_128 q k l = omega arith
-
-low_16 : (q k : ℕ) → q < 16 → (q + 16 * k) % 16 ≡ q
-low_16 q k l = omega arith
-
--- the hundreds of the number in the low half, and of the one above it
-hundred_low : (a r : ℕ) → a < 10000 → (a + 4294967296 * r) * 10486 / 1048576 % 128 ≡ a / 100
-hundred_low a r l =
-    let e : (a + 4294967296 * r) * 10486 / 1048576 ≡ a / 100 + 128 * (335552 * r) = omega arith in
-    ap (λ (n : ℕ). n % 128) e ∙ low_128 (a / 100) (335552 * r) (omega arith)
-
-hundred_high : (a r : ℕ) → a < 10000 → (a + 4294967296 * r) * 10486 / 1048576 / 4294967296 ≡ r * 10486 / 1048576
-hundred_high a r l = omega arith
-
-pub hundreds_are : (a b : ℕ) → (a < 10000) × (b < 10000)
-    → (a + 4294967296 * b) * 10486 / 1048576 % 128 + 4294967296 * ((a + 4294967296 * b) * 10486 / 1048576 / 4294967296) ≡ a / 100 + 4294967296 * (b / 100)
-hundreds_are a b (l, m) =
-    let e : b * 10486 / 1048576 ≡ b / 100 = omega arith in
-    rw (hundred_low a b l, hundred_high a b l, e)
-
--- the tens of the number in the lowest quarter, and of those above it
-ten_low : (c r : ℕ) → c < 100 → (c + 65536 * r) * 103 / 1024 % 16 ≡ c / 10
-ten_low c r l =
-    let e : (c + 65536 * r) * 103 / 1024 ≡ c / 10 + 16 * (412 * r) = omega arith in
-    ap (λ (n : ℕ). n % 16) e ∙ low_16 (c / 10) (412 * r) (omega arith)
-
-ten_high : (c r : ℕ) → c < 100 → (c + 65536 * r) * 103 / 1024 / 65536 ≡ r * 103 / 1024
-ten_high c r l = omega arith
-
 -- four numbers of two digits
 abbrev Pairs : ℕ → ℕ → ℕ → ℕ → Type 0
 Pairs a b c d = (a < 100) × (b < 100) × (c < 100) × (d < 100)
-
-tens_of : (a b c d : ℕ) → Pairs a b c d → let w = quarters a b c d * 103 / 1024 in
-    w % 16 + 65536 * (w / 65536 % 16) + 4294967296 * (w / 4294967296 % 16) + 281474976710656 * (w / 281474976710656) ≡ quarters (a / 10) (b / 10) (c / 10) (d / 10)
-tens_of a b c d (la, lb, lc, ld) =
-    let w = quarters a b c d * 103 / 1024 in
-    let e1 : w / 65536 ≡ (b + 65536 * (c + 65536 * d)) * 103 / 1024 = ten_high a (b + 65536 * (c + 65536 * d)) la in
-    let e2 : w / 4294967296 ≡ (c + 65536 * d) * 103 / 1024 = omega (arith, e1, ten_high b (c + 65536 * d) lb) in
-    let e3 : w / 281474976710656 ≡ d * 103 / 1024 = omega (arith, e2, ten_high c d lc) in
-    let e4 : d * 103 / 1024 ≡ d / 10 = omega arith in
-    rw (e1, e2, e3, e4, ten_low a (b + 65536 * (c + 65536 * d)) la, ten_low b (c + 65536 * d) lb, ten_low c d lc) (omega arith)
-
-pub tens_are : (z : ℕ) → Paired z
-    → z * 103 / 1024 % 16 + 65536 * (z * 103 / 1024 / 65536 % 16) + 4294967296 * (z * 103 / 1024 / 4294967296 % 16) + 281474976710656 * (z * 103 / 1024 / 281474976710656)
-    ≡ first_digits z
-tens_are z q =
-    let e : quarters (z % 65536) (z / 65536 % 65536) (z / 4294967296 % 65536) (z / 281474976710656) ≡ z = omega arith in
-    rw e at (tens_of (z % 65536) (z / 65536 % 65536) (z / 4294967296 % 65536) (z / 281474976710656) (q.first, q.second, q.third, q.fourth))
 
 -- four pairs in a word
 module _ (a b c d : ℕ) (l : Pairs a b c d) where

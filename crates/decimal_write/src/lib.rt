@@ -103,10 +103,10 @@ fn put_digits(buf: &mut [u8], end: usize, n: u64) -> usize
     let mut rest = n;
     while 100000000 <= rest {
         p -= 8;
-        fields::put_u64(buf, p, eight_digits(rest % 100000000));
+        fields::put_number::<8>(buf, p, eight_digits(rest % 100000000));
         rest = rest / 100000000;
     }
-    fields::put_u64(buf, p - 8, eight_digits(rest));
+    fields::put_number::<8>(buf, p - 8, eight_digits(rest));
     end - digit_count(n)
 }
 

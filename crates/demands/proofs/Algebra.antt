@@ -1,4 +1,5 @@
 -- Combination commutes, and associates where both groupings are accepted. Assumes nothing.
+use Rattle.std.specs.Prelude.{Err, Ok}
 use mathlib.Core.Bool.{not}
 use mathlib.Core.List.Permᴰ
 use mathlib.Core.List.{List, [], ◌∷◌, ◌++◌, append_assoc, Permᴰ}
@@ -9,10 +10,8 @@ use native.Mathlib.Nat.{add_comm}
 use lib.Dec.{eqb}
 use lib.ListN.{length}
 use borrow.Author.Tests.{eqb-true, not-false}
-use Rattle.basis.specs.declared.Verdict.{Verdict}
-use Rattle.basis.specs.declared.Verdict.TheVariants.{Passes, Refuses}
+use Rattle.basis.specs.Answers.{Verdict, Passes, first_refusal, settled}
 use Rattle.basis.specs.Bytes.{Bytes}
-use Rattle.basis.specs.Answers.{first_refusal, settled}
 use Rattle.basis.proofs.Answers.{never, each-passes, passed_if}
 use Rattle.basis.proofs.Lists.{◌&◌, sorted_by_perm}
 use Rattle.meaning.specs.Report.{Entry, in_order, report_bytes, report_year, entry_count, entries_of}
@@ -48,9 +47,9 @@ agree_first (row ∷ rows) (row' ∷ rows') a n p =
     )
 
 same-verdict : (v w : Verdict) (rows rows' : List Row) → Decides v (FirstOf rows) → Decides w (FirstOf rows') → Agree rows rows' → v ≡ w
-same-verdict Passes Passes rows rows' d e a = refl
-same-verdict Passes (Refuses n p) rows rows' d e a = absurd (never ((d n p).1 ((agree_first rows rows' a n p).1 ((e n p).0 refl))))
-same-verdict (Refuses n p) w rows rows' d e a = sym ((e n p).1 ((agree_first rows rows' a n p).0 ((d n p).0 refl)))
+same-verdict (Ok done) (Ok done_too) rows rows' d e a = refl
+same-verdict (Ok done) (Err refusal) rows rows' d e a = absurd (never ((d refusal.number refusal.place).1 ((agree_first rows rows' a refusal.number refusal.place).1 ((e refusal.number refusal.place).0 refl))))
+same-verdict (Err refusal) w rows rows' d e a = sym ((e refusal.number refusal.place).1 ((agree_first rows rows' a refusal.number refusal.place).0 ((d refusal.number refusal.place).0 refl)))
 
 no_such : (b : List ℕ) → GoodReport b → NoReport b → ⊥
 no_such b g f = f (report_year b) (entries_of b) (formed-report b g.bytes g.formed)
@@ -90,8 +89,8 @@ together one other buffer h g e =
 -- two calls of one verdict that make the same where they accept are one
 same-settled : (v w : Verdict) (made made' buffer : List ℕ) → v ≡ w → (v ≡ Passes → made ≡ made') → settled v made buffer ≡ settled w made' buffer
 unfolding settled
-same-settled Passes w made made' buffer e m = ap₂ (λ (x : Verdict) (bs : List ℕ). settled x bs buffer) e (m refl)
-same-settled (Refuses n p) w made made' buffer e m = ap (λ (x : Verdict). settled x made' buffer) e
+same-settled (Ok done) w made made' buffer e m = ap₂ (λ (x : Verdict) (bs : List ℕ). settled x bs buffer) e (m refl)
+same-settled (Err refusal) w made made' buffer e m = ap (λ (x : Verdict). settled x made' buffer) e
 
 commutes : (one other buffer : List ℕ) → GoodReport one → GoodReport other → combined one other buffer ≡ combined other one buffer
 unfolding combined written

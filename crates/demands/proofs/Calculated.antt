@@ -8,15 +8,13 @@ use native.Mathlib.Omega.{arith}
 use lib.Dec.{eqb}
 use lib.ListN.{length, get_or, length-map, get_or-map}
 use borrow.Author.Tests.{eqb-true, eq-eqb, not-false}
-use Rattle.basis.specs.declared.Verdict.{Verdict}
-use Rattle.basis.specs.declared.Verdict.TheVariants.{Passes}
+use Rattle.basis.specs.Answers.{Verdict, Passes, first_refusal}
 use Rattle.basis.specs.Bytes.{Bytes}
 use Rattle.basis.specs.Lists.{Each, count_up, any, joined}
-use Rattle.basis.specs.Answers.{first_refusal}
 use Rattle.basis.proofs.Answers.{passed-at-first, passed-at-all, passed_then, each-passes, passed_append, passes-each}
 use Rattle.basis.proofs.Lists.{◌&◌, length-sorted_by, each_at, at_each, each_map, sorted_by-each}
 use Rattle.basis.proofs.Bools.{clash, and-true, not_both, or_either}
-use Rattle.meaning.specs.declared.Decoded.TheVariants.{Bad}
+use Rattle.std.specs.Prelude.{None}
 use Rattle.meaning.specs.Methods.{within, listed, is_bad}
 use Rattle.meaning.specs.Masses.{masses}
 use Rattle.meaning.specs.Register.{Source, year_of, source_count, most_sources, sources_at, source_length, source_entry, source_at, sources_of, unsound, decoded_lines, register_tests}
@@ -123,14 +121,14 @@ joined-any test f (x ∷ xs) h = append_any test (f x) (joined (map f xs)) h.0 (
 pub lines-good : (ss : List Source) → line_test ss ≡ Passes → Each (λ s. any is_bad (decoded_lines s) ≡ false) ss
 lines-good ss e =
     let ls = joined (map decoded_lines ss) in
-    any-joined is_bad decoded_lines ss (not_both (any is_bad ls) (λ t. let r = any_some is_bad Bad ls t in clash r.2 ((passed-at-all 5 (bad_line ls) (length ls)).0 (sym (line_test_lem ss) ∙ e) r.0 r.1)))
+    any-joined is_bad decoded_lines ss (not_both (any is_bad ls) (λ t. let r = any_some is_bad None ls t in clash r.2 ((passed-at-all 5 (bad_line ls) (length ls)).0 (sym (line_test_lem ss) ∙ e) r.0 r.1)))
 
 pub good-lines : (ss : List Source) → Each (λ s. any is_bad (decoded_lines s) ≡ false) ss → line_test ss ≡ Passes
 good-lines ss h =
     let ls = joined (map decoded_lines ss) in
     line_test_lem ss
     ∙ (passed-at-all 5 (bad_line ls) (length ls)).1
-    (λ i l. not_both (bad_line ls i) (λ t. clash (some-any is_bad Bad ls i l t) (joined-any is_bad decoded_lines ss h)))
+    (λ i l. not_both (bad_line ls i) (λ t. clash (some-any is_bad None ls i l t) (joined-any is_bad decoded_lines ss h)))
 
 fault-zero : (ss : List Source) (i : ℕ) → mass_fault (get_or ss i no_source) ≡ get_or (map mass_fault ss) i 0
 fault-zero ss i = sym (get_or-map mass_fault ss i no_source) ∙ ap (get_or (map mass_fault ss) i) no_fault

@@ -10,9 +10,8 @@ use lib.ListN.{length, get_or, length-map, get_or-map}
 use borrow.Author.Tests.{eqb-false, ne_eqb, not-true}
 use Rattle.basis.specs.Lists.{sum, count_up, any}
 use Rattle.basis.proofs.Bools.{clash, not_both}
-use Rattle.meaning.specs.declared.Decoded.{Decoded}
-use Rattle.meaning.specs.declared.Decoded.TheVariants.{Good, Bad}
-use Rattle.meaning.specs.Methods.{decoded, is_bad}
+use Rattle.meaning.specs.Methods.{Decoded, decoded, is_bad}
+use Rattle.std.specs.Prelude.{Some, None}
 use Rattle.meaning.specs.Masses.{added, taken, below_zero, rounded, mass, masses, weighed, equivalent, limit}
 use Rattle.meaning.specs.Register.{source_count, line_count, name_bytes, source_at, sources_of, line_start, name_start, decoded_lines}
 use Rattle.meaning.specs.Calls.{line_test, fault_of, mass_fault, fault_at, mass_test}
@@ -42,9 +41,9 @@ module _ (b : List ℕ) (l : LaidRight b) where
   pub following : Following b
   following = record { each = λ i m. (standing i m).line; last = last_line_lem }
 
-  bad-is : (d : Decoded) → is_bad d ≡ true → d ≡ Bad
-  bad-is (Good x) e = absurd (clash e refl)
-  bad-is Bad e = refl
+  bad-is : (d : Decoded) → is_bad d ≡ true → d ≡ None
+  bad-is (Some x) e = absurd (clash e refl)
+  bad-is None e = refl
 
   pub line_decides : Decides (line_test (sources_of b)) (at_smallest (line_count b) (with_number 5 (BadLine b)))
   line_decides =
@@ -52,7 +51,7 @@ module _ (b : List ℕ) (l : LaidRight b) where
       (decide_at-first 5 (bad_line (all_lines b)) (line_count b) (BadLine b)
       (λ j m e.
       let r = line_of b following j m in
-      (r.0, r.1, r.2, r.3, (bad-exactly (method b r.0) (parameter b r.0) (line b j)).0 (sym (line-is b following r.0 j r.1 r.2 r.3) ∙ bad-is (get_or (all_lines b) j Bad) e)))
+      (r.0, r.1, r.2, r.3, (bad-exactly (method b r.0) (parameter b r.0) (line b j)).0 (sym (line-is b following r.0 j r.1 r.2 r.3) ∙ bad-is (get_or (all_lines b) j None) e)))
       (λ j m r. ap is_bad (line-is b following r.0 j r.1 r.2 r.3 ∙ (bad-exactly (method b r.0) (parameter b r.0) (line b j)).1 r.4)))
 
 -- 6 and 7: what a source is refused for, its lines being good

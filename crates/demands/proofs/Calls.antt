@@ -1,4 +1,5 @@
 -- What demands 1 and 2 say of each call holds of the meaning's. Assumes nothing.
+use Rattle.std.specs.Prelude.{Err, Ok}
 use mathlib.Core.Bool.{true, not}
 use mathlib.Core.List.{List, [], ◌∷◌, ◌++◌, map, map-map, Perm}
 use mathlib.Core.Logic.{inl, inr, ◌≢◌}
@@ -10,11 +11,9 @@ use lib.ListN.{length, get_or, drop, replicate, length-replicate}
 use lib.Seq.{take-append_seam}
 use borrow.Author.Tests.{eqb-true, not-false}
 use Rattle.basis.specs.declared.Answer.{Answer}
-use Rattle.basis.specs.declared.Verdict.{Verdict}
-use Rattle.basis.specs.declared.Verdict.TheVariants.{Passes, Refuses}
+use Rattle.basis.specs.Answers.{Verdict, Passes, first_refusal, Outcome, settled}
 use Rattle.basis.specs.Bytes.{number_at, Bytes}
 use Rattle.basis.specs.Lists.{any, without, count_up}
-use Rattle.basis.specs.Answers.{first_refusal, Outcome, settled}
 use Rattle.basis.proofs.Answers.{each-passes, passed_append, passed_if}
 use Rattle.basis.proofs.Counting.{any_some, get_d_either}
 use Rattle.meaning.specs.Report.{Entry, report_year, entries_of}
@@ -148,8 +147,8 @@ module _ (register : List ℕ) (h : Bytes register) where
   rows-passed f = by (first_refusal (calculation_tests register)) refl
     where
       by : (v : Verdict) → first_refusal (calculation_tests register) ≡ v → v ≡ Passes
-      by Passes e = refl
-      by (Refuses n p) e = absurd (f n p ((first_decides (calculation_tests register) (source_rows register) (sources_decide register h) n p).0 e))
+      by (Ok done) e = refl
+      by (Err refusal) e = absurd (f refusal.number refusal.place ((first_decides (calculation_tests register) (source_rows register) (sources_decide register h) refusal.number refusal.place).0 e))
 
   program : (room : List ℕ) → 38994 ≤ length room → SaysRegister register (output register room)
   unfolding output calculated written settled

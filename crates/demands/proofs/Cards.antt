@@ -10,7 +10,7 @@ use lib.Dec.{eqb, ltb}
 use lib.ListN.{length}
 use lib.Seq.{take-length, ext_get_or}
 use borrow.Author.Tests.{ltb-true, ltb-false, lt-ltb, eqb-true, eqb-false, not-true, not-false}
-use Rattle.basis.specs.declared.Verdict.TheVariants.{Passes}
+use Rattle.basis.specs.Answers.{Passes}
 use Rattle.basis.specs.Bytes.{number_at, packed}
 use Rattle.basis.specs.Lists.{sum, count_up}
 use Rattle.basis.proofs.Answers.{each-passes, passed-at-all}

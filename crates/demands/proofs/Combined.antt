@@ -1,4 +1,5 @@
 -- What combination makes of two reports that go together; the reports of sources, as the third demand has them. Assumes nothing.
+use Rattle.std.specs.Prelude.{Err, Ok}
 use mathlib.Core.Bool.{not}
 use mathlib.Core.List.Permᴰ
 use mathlib.Core.List.{List, [], ◌∷◌, ◌++◌, map, map-append, Permᴰ}
@@ -9,11 +10,9 @@ use native.Mathlib.Omega.{arith}
 use lib.ListN.{length, get_or, take, drop, length-append, length-map}
 use lib.Seq.{take_at}
 use borrow.Author.Tests.{eqb-true}
-use Rattle.basis.specs.declared.Verdict.{Verdict}
-use Rattle.basis.specs.declared.Verdict.TheVariants.{Passes, Refuses}
+use Rattle.basis.specs.Answers.{Verdict, Passes, first_refusal, Outcome, settled}
 use Rattle.basis.specs.Bytes.{splice}
 use Rattle.basis.specs.Lists.{Each, joined}
-use Rattle.basis.specs.Answers.{first_refusal, Outcome, settled}
 use Rattle.basis.proofs.Lists.{◌&◌, sorted_by_perm, each_at, each-split}
 use Rattle.meaning.proofs.Laws.{length-in_order}
 use Rattle.meaning.specs.Register.{Source, most_sources}
@@ -47,8 +46,8 @@ accepted-written tests made buffer e =
     (ap (λ (o : Outcome). o.answer.number) f, ap wrote f ∙ splice_front buffer made)
 
 pub nowhere_passes : (v : Verdict) (row : Row) → Decides v row → Nowhere row → v ≡ Passes
-nowhere_passes Passes row d n = refl
-nowhere_passes (Refuses m q) row d n = absurd (n m q ((d m q).0 refl))
+nowhere_passes (Ok done) row d n = refl
+nowhere_passes (Err refusal) row d n = absurd (n refusal.number refusal.place ((d refusal.number refusal.place).0 refl))
 
 module _ (y : ℕ) (xs zs : List Entry) (v : Reportable y xs) (w : Reportable y zs) where
   pub apart_nowhere : Each (λ x. Each (λ z. entry_number x ≢ entry_number z) zs) xs → (p : ℕ) → InBoth (report_bytes y xs) (report_bytes y zs) p → ⊥

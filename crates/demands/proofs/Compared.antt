@@ -7,8 +7,7 @@ use Prim.Native.Nat.{ℕ, ◌≤◌, ◌<◌}
 use lib.Dec.{eqb, ltb}
 use lib.ListN.{length}
 use borrow.Author.Tests.{ltb-true, eqb-true, eqb-false, lt-ltb, le-ltb, eq-eqb, not-true, not-false}
-use Rattle.basis.specs.declared.Verdict.TheVariants.{Passes}
-use Rattle.basis.specs.Answers.{refuse_if}
+use Rattle.basis.specs.Answers.{Passes, refuse_if}
 use Rattle.basis.proofs.Answers.{if_passed}
 use Rattle.basis.proofs.Bools.{clash, or_false, false_or, or_either}
 use Rattle.meaning.specs.Calls.{room_test}

@@ -1,4 +1,5 @@
 -- Tests decide rows: the first refusal of a list of tests is the first row that refuses. Assumes nothing.
+use Rattle.std.specs.Prelude.{Err, Ok}
 use mathlib.Core.Bool.{Bool, true, false}
 use mathlib.Core.List.{List, [], ◌∷◌, ◌++◌}
 use mathlib.Core.Logic.{inl, inr, ⊎_elim, ◌↔◌, ◌≢◌}
@@ -11,10 +12,8 @@ use lib.ListN.{length, drop}
 use Rattle.basis.specs.Bytes.{splice}
 use Rattle.basis.specs.Lists.{Each}
 use Rattle.basis.specs.declared.Answer.{Answer}
-use Rattle.basis.specs.declared.Verdict.{Verdict}
-use Rattle.basis.specs.declared.Verdict.TheVariants.{Passes, Refuses}
+use Rattle.basis.specs.Answers.{Verdict, Passes, Refuses, refuse_if, first_refusal, answer, settled}
 use Rattle.basis.specs.First.{first}
-use Rattle.basis.specs.Answers.{refuse_if, first_refusal, answer, settled}
 use Rattle.basis.proofs.Answers.{never, refuses-number, refuses-place, refuses_both, refused-at-first}
 use Rattle.basis.proofs.Bytes.{length-splice}
 use Rattle.basis.proofs.Bools.{clash, not_both}
@@ -49,12 +48,12 @@ unfolding first_refusal
 first_decides [] [] d n p = (λ e. never e, λ r. absurd r)
 first_decides [] (row ∷ rows) d n p = absurd d
 first_decides (v ∷ vs) [] d n p = absurd d
-first_decides (Passes ∷ vs) (row ∷ rows) d n p =
+first_decides (Ok done ∷ vs) (row ∷ rows) d n p =
     let later = first_decides vs rows (d.1 refl) n p in
     let none = passes_nowhere Passes row d.0 refl in
     (λ e. inr (none, later.0 e), λ r. ⊎_elim (λ h. absurd (none n p h)) (λ h. later.1 h.1) r)
-first_decides (Refuses m q ∷ vs) (row ∷ rows) d n p =
-    (λ e. inl ((d.0 n p).0 e), λ r. ⊎_elim (λ h. (d.0 n p).1 h) (λ h. absurd (h.0 m q ((d.0 m q).0 refl))) r)
+first_decides (Err refusal ∷ vs) (row ∷ rows) d n p =
+    (λ e. inl ((d.0 n p).0 e), λ r. ⊎_elim (λ h. (d.0 n p).1 h) (λ h. absurd (h.0 refusal.number refusal.place ((d.0 refusal.number refusal.place).0 refl))) r)
 
 pub decide_append : (vs us : List Verdict) (rows rows' : List Row) → DecideAll vs rows → (first_refusal vs ≡ Passes → DecideAll us rows')
     → DecideAll (vs ++ us) (rows ++ rows')
@@ -62,8 +61,8 @@ unfolding first_refusal
 decide_append [] us [] rows' d e = e refl
 decide_append [] us (row ∷ rows) rows' d e = absurd d
 decide_append (v ∷ vs) us [] rows' d e = absurd d
-decide_append (Passes ∷ vs) us (row ∷ rows) rows' d e = (d.0, λ h. decide_append vs us rows rows' (d.1 h) e)
-decide_append (Refuses m q ∷ vs) us (row ∷ rows) rows' d e = (d.0, λ h. absurd (never (sym h)))
+decide_append (Ok done ∷ vs) us (row ∷ rows) rows' d e = (d.0, λ h. decide_append vs us rows rows' (d.1 h) e)
+decide_append (Err refusal ∷ vs) us (row ∷ rows) rows' d e = (d.0, λ h. absurd (never (sym h)))
 
 -- a test of a condition
 pub decide_if : (b : Bool) (number place : ℕ) (C : Type 0) → (b ≡ true → C) → (b ≡ false → C → ⊥) → Decides (refuse_if b number place) (at number place C)
@@ -88,8 +87,8 @@ decide_first test count number wrong right only n p =
 
 pub settled-answer : (v : Verdict) (made buffer : List ℕ) → (settled v made buffer).answer ≡ answer v (length made)
 unfolding settled
-settled-answer Passes made buffer = refl
-settled-answer (Refuses n p) made buffer = refl
+settled-answer (Ok done) made buffer = refl
+settled-answer (Err refusal) made buffer = refl
 
 -- each row of a list refuses with one of some numbers
 abbrev pub NumbersOf : List ℕ → List Row → Type 0
@@ -118,17 +117,17 @@ refusal_path e i = record { number = sym (refuses-number e) i; place = sym (refu
 
 -- a call's answer is given exactly when its rows say
 pub exactly : (v : Verdict) (ns : List ℕ) (rows : List Row) (made : ℕ) → Decides v (FirstOf rows) → Numbered ns rows → Exactly rows (answer v made)
-exactly Passes ns rows made d z =
+exactly (Ok done) ns rows made d z =
     record {
       refused = λ n p h. (λ e. absurd (h (sym (ap (λ (a : Answer). a.number) e))), λ r. absurd (never ((d n p).1 r)));
       accepted = (λ e n p r. never ((d n p).1 r), λ h. refl);
     }
-exactly (Refuses m q) ns rows made d z =
-    let fires = (d m q).0 refl in
+exactly (Err refusal) ns rows made d z =
+    let fires = (d refusal.number refusal.place).0 refl in
     record {
       refused = λ n p h.
           (λ e. (d n p).0 (refuses_both (sym (ap (λ (a : Answer). a.number) e)) (sym (ap (λ (a : Answer). a.place) e))), λ r. refusal_path ((d n p).1 r));
-      accepted = (λ e. absurd (first-number ns rows z m q fires e), λ h. absurd (h m q fires));
+      accepted = (λ e. absurd (first-number ns rows z refusal.number refusal.place fires e), λ h. absurd (h refusal.number refusal.place fires));
     }
 
 -- and so is that of a call that writes, by its tests and that of the room
@@ -148,12 +147,12 @@ zero-passes tests ns rows made buffer d z e =
     by (first_refusal ts) refl (sym (ap (λ (a : Answer). a.number) (settled-answer (first_refusal ts) made buffer)) ∙ e)
   where
     by : (v : Verdict) → first_refusal (tests ++ (room_test made buffer ∷ [])) ≡ v → (answer v (length made)).number ≡ 0 → v ≡ Passes
-    by Passes h q = refl
-    by (Refuses n p) h q = absurd (first-number ns rows z n p ((first_decides (tests ++ (room_test made buffer ∷ [])) rows d n p).0 h) q)
+    by (Ok done) h q = refl
+    by (Err refusal) h q = absurd (first-number ns rows z refusal.number refusal.place ((first_decides (tests ++ (room_test made buffer ∷ [])) rows d refusal.number refusal.place).0 h) q)
 
 pub answers-verdict : (v : Verdict) (ns : List ℕ) (rows : List Row) (len : ℕ) → Decides v (FirstOf rows) → Numbered ns rows → FromTable ns (answer v len)
-answers-verdict Passes ns rows len d z = inl (refl, refl)
-answers-verdict (Refuses n p) ns rows len d z = inr (first_among ns rows z.among n p ((d n p).0 refl), refl)
+answers-verdict (Ok done) ns rows len d z = inl (refl, refl)
+answers-verdict (Err refusal) ns rows len d z = inr (first_among ns rows z.among refusal.number refusal.place ((d refusal.number refusal.place).0 refl), refl)
 
 -- what any answer of such a call is
 pub answers : (tests : List Verdict) (ns : List ℕ) (rows : List Row) (made buffer : List ℕ) → DecideAll (tests ++ (room_test made buffer ∷ [])) rows → Numbered ns rows
@@ -164,11 +163,11 @@ answers tests ns rows made buffer d z =
     by (first_refusal ts) refl
   where
     by : (v : Verdict) → first_refusal (tests ++ (room_test made buffer ∷ [])) ≡ v → Answers ns buffer (settled v made buffer)
-    by Passes h =
+    by (Ok done) h =
         record { from_table = inl (refl, refl); held = λ n. absurd (n refl); sized = length-splice buffer 0 made (omega (arith, room-passed tests made buffer h)) }
-    by (Refuses n p) h =
+    by (Err refusal) h =
         record {
-          from_table = inr (first_among ns rows z.among n p ((first_decides (tests ++ (room_test made buffer ∷ [])) rows d n p).0 h), refl);
+          from_table = inr (first_among ns rows z.among refusal.number refusal.place ((first_decides (tests ++ (room_test made buffer ∷ [])) rows d refusal.number refusal.place).0 h), refl);
           held = λ _. refl;
           sized = refl;
         }

@@ -1,4 +1,5 @@
 -- What is said of a call is said of one outcome alone. Assumes nothing.
+use Rattle.std.specs.Prelude.{Err, Ok}
 use mathlib.Core.Bool.{Bool, true, false, cond}
 use mathlib.Core.List.Permᴰ
 use mathlib.Core.List.{List, [], ◌∷◌, ◌++◌, map, Perm, is_set, Permᴰ}
@@ -13,11 +14,9 @@ use lib.ListN.{length, take, drop}
 use lib.Seq.{ext_get_or}
 use borrow.Author.Tests.{eq-eqb}
 use Rattle.basis.specs.declared.Answer.{Answer}
-use Rattle.basis.specs.declared.Verdict.{Verdict}
-use Rattle.basis.specs.declared.Verdict.TheVariants.{Passes, Refuses}
+use Rattle.basis.specs.Answers.{Verdict, first_refusal}
 use Rattle.basis.specs.Bytes.{Bytes}
 use Rattle.basis.specs.Lists.{Each, insert_by, sorted_by, without}
-use Rattle.basis.specs.Answers.{first_refusal}
 use Rattle.basis.proofs.Answers.{coincide, coincide-part}
 use Rattle.meaning.specs.declared.RawLine.{RawLine}
 use Rattle.meaning.specs.declared.Part.{Part}
@@ -296,8 +295,8 @@ says_report-once report h t u x y = by (form_test report 1) refl
     decides = form_decides report 1 h
 
     by : (v : Verdict) → form_test report 1 ≡ v → t ≡ u
-    by (Refuses n p) e = let r = ((decides n p).0 e).2 in refusal-once 9 1 t u (x.refused r) (y.refused r)
-    by Passes e = let r = nowhere_at (passes_nowhere (form_test report 1) (at 9 1 (NoReport report)) decides e) in text-once report t u (x.shown r) (y.shown r)
+    by (Err refusal) e = let r = ((decides refusal.number refusal.place).0 e).2 in refusal-once 9 1 t u (x.refused r) (y.refused r)
+    by (Ok done) e = let r = nowhere_at (passes_nowhere (form_test report 1) (at 9 1 (NoReport report)) decides e) in text-once report t u (x.shown r) (y.shown r)
 
 says_register-once : (register : List ℕ) → Bytes register → Once (SaysRegister register)
 says_register-once register h t u x y = by (first_refusal (calculation_tests register)) refl
@@ -306,8 +305,8 @@ says_register-once register h t u x y = by (first_refusal (calculation_tests reg
     decides = first_decides (calculation_tests register) (source_rows register) (sources_decide register h)
 
     by : (v : Verdict) → first_refusal (calculation_tests register) ≡ v → t ≡ u
-    by (Refuses n p) e = let r = (decides n p).0 e in refusal-once n p t u (x.refused n p r) (y.refused n p r)
-    by Passes e =
+    by (Err refusal) e = let r = (decides refusal.number refusal.place).0 e in refusal-once refusal.number refusal.place t u (x.refused refusal.number refusal.place r) (y.refused refusal.number refusal.place r)
+    by (Ok done) e =
         let none = passes_nowhere (first_refusal (calculation_tests register)) (FirstOf (source_rows register)) decides e in
         let v = x.shown none in
         let w = y.shown none in
@@ -321,8 +320,8 @@ says_amounts-once cards t u x y = by (first_refusal (card_tests cards)) refl
     decides = first_decides (card_tests cards) (card_rows cards) (card_tests_decide cards)
 
     by : (v : Verdict) → first_refusal (card_tests cards) ≡ v → t ≡ u
-    by (Refuses n p) e = let r = (decides n p).0 e in refusal-once n p t u (x.refused n p r) (y.refused n p r)
-    by Passes e =
+    by (Err refusal) e = let r = (decides refusal.number refusal.place).0 e in refusal-once refusal.number refusal.place t u (x.refused refusal.number refusal.place r) (y.refused refusal.number refusal.place r)
+    by (Ok done) e =
         let none = passes_nowhere (first_refusal (card_tests cards)) (FirstOf (card_rows cards)) decides e in
         let v = x.shown none in
         let w = y.shown none in

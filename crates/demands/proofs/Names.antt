@@ -1,4 +1,5 @@
 -- The name lookups: empty exactly where document 01 says, and else the name where it stands. Assumes nothing.
+use Rattle.std.specs.Prelude.{Err, Ok}
 use mathlib.Core.Bool.{Bool, true, false, ◌&&◌}
 use mathlib.Core.List.{List}
 use mathlib.Core.Logic.{◌⊎◌, inl, inr}
@@ -10,9 +11,7 @@ use lib.Dec.{ltb}
 use lib.ListN.{length, get_or, drop, length-drop}
 use lib.Seq.{length-take-le}
 use borrow.Author.Tests.{ltb-true, eqb-true, lt-ltb, eq-eqb, ne_eqb}
-use Rattle.basis.specs.declared.Verdict.{Verdict}
-use Rattle.basis.specs.declared.Verdict.TheVariants.{Passes, Refuses}
-use Rattle.basis.specs.Answers.{first_refusal, passes}
+use Rattle.basis.specs.Answers.{Verdict, Passes, first_refusal, passes}
 use Rattle.basis.proofs.First.{first_hits, first_misses, first-is}
 use Rattle.basis.proofs.Answers.{never, passes-is}
 use Rattle.basis.proofs.Bools.{clash, not_both}
@@ -42,8 +41,8 @@ unfolding accepted
 refused b e = by (first_refusal (register_tests b)) refl e
   where
     by : (v : Verdict) → first_refusal (register_tests b) ≡ v → passes v ≡ false → Refused b
-    by Passes p q = absurd (clash refl q)
-    by (Refuses n k) p q = (n, k, (first_decides (register_tests b) (register_rows b) (register_decides b) n k).0 p)
+    by (Ok done) p q = absurd (clash refl q)
+    by (Err refusal) p q = (refusal.number, refusal.place, (first_decides (register_tests b) (register_rows b) (register_decides b) refusal.number refusal.place).0 p)
 
 unrefused : (b : List ℕ) → (Refused b → ⊥) → accepted b ≡ true
 unrefused b h = by (accepted b) refl

@@ -13,7 +13,7 @@ use Rattle.basis.specs.Lists.{Each}
 use Rattle.basis.proofs.Bools.{or_true}
 use Rattle.basis.proofs.Lists.{◌&◌}
 use Rattle.meaning.specs.declared.RawLine.{RawLine}
-use Rattle.meaning.specs.declared.Decoded.TheVariants.{Good}
+use Rattle.std.specs.Prelude.{Some}
 use Rattle.meaning.specs.Methods.{carbonates, within, in_range, by_method, decoded, figured, figures_of}
 use Rattle.meaning.specs.Masses.{Contribution, contribution}
 use Rattle.demands.specs.Table.{Among, In, adds, takes, MethodRow, Fits, content, 1_to_4, 1_to_6, table, row_at, kind_of, amount}
@@ -35,7 +35,7 @@ said r p l = record { gas = r.gas; adds = amount adds r.gas r p l; takes = amoun
 
 abbrev pub Reads : ℕ → ℕ → RawLine → MethodRow → Type 0
 Reads m p l r =
-    (decoded m p l ≡ Good (record { quantity = l.q; kind = kind_of r p l }))
+    (decoded m p l ≡ Some (record { quantity = l.q; kind = kind_of r p l }))
     × (contribution l.q (kind_of r p l) ≡ said r p l)
     × (figures_of (kind_of r p l) ≡ figured m l.kind l.a l.b)
 

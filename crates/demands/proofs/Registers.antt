@@ -10,9 +10,8 @@ use lib.Dec.{leb}
 use lib.ListN.{length, get_or, length-map, get_or-map}
 use borrow.Author.Tests.{le-leb}
 use Rattle.basis.proofs.Lists.{◌&◌, each_at, at_each}
-use Rattle.basis.specs.declared.Verdict.TheVariants.{Passes}
+use Rattle.basis.specs.Answers.{Passes, first_refusal}
 use Rattle.basis.specs.Bytes.{number_at, starts_with}
-use Rattle.basis.specs.Answers.{first_refusal}
 use Rattle.basis.proofs.Answers.{passed-at-all, passes-each, if_passed}
 use Rattle.basis.proofs.Bools.{clash, true-and, or_false, false_or, not_both}
 use Rattle.meaning.specs.Register.{Source, register_tag, register_layout, year_of, is_year, source_count, most_sources, line_count, most_lines, name_bytes, most_name_bytes, sources_at, lines_at, names_at, whole_length, header_tests, source_at, sources_of, line_start, name_start, misplaced, unsound, wrong_source, source_test, rest_test, repeats, repeat_test, register_tests}

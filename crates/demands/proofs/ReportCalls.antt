@@ -8,12 +8,10 @@ use native.Mathlib.Nat.{le_trans}
 use native.Mathlib.Omega.{arith}
 use lib.ListN.{length, length-append}
 use borrow.Author.Tests.{eqb-true, ne_eqb, not-true, not-false}
-use Rattle.basis.specs.declared.Verdict.{Verdict}
-use Rattle.basis.specs.declared.Verdict.TheVariants.{Passes}
+use Rattle.basis.specs.Answers.{Verdict, Passes, refuse_if, first_refusal, answer}
 use Rattle.basis.specs.Bytes.{Bytes}
 use Rattle.basis.specs.Lists.{Each, any, without}
 use Rattle.basis.proofs.Lists.{◌&◌, each_map, without-none}
-use Rattle.basis.specs.Answers.{refuse_if, first_refusal, answer}
 use Rattle.basis.proofs.Bools.{clash, not_both}
 use Rattle.meaning.specs.Register.{most_sources}
 use Rattle.meaning.specs.Report.{Entry, report_length, report_year, entry_count, entries_of, well_formed}

@@ -9,10 +9,9 @@ use native.Mathlib.Decide.{dec_lt}
 use lib.Dec.{eqb}
 use lib.ListN.{length, get_or, length-map, length-append, get_or-map}
 use borrow.Author.Tests.{eqb-true, eq-eqb, not-true, not-false}
-use Rattle.basis.specs.declared.Verdict.TheVariants.{Passes}
+use Rattle.basis.specs.Answers.{Passes, refuse_if}
 use Rattle.basis.specs.Bytes.{number_at, Bytes}
 use Rattle.basis.specs.Lists.{Each, stands, any}
-use Rattle.basis.specs.Answers.{refuse_if}
 use Rattle.basis.proofs.Answers.{never, refused-at-first, passed-at-first}
 use Rattle.basis.proofs.Lists.{length-sorted_by, at_each, each_append, sorted_by-each}
 use Rattle.basis.proofs.Bools.{clash, not_both}

@@ -10,8 +10,7 @@ use lib.ListN.{length}
 use borrow.Author.Tests.{leb-false}
 use Rattle.basis.specs.Bytes.{Bytes}
 use Rattle.basis.specs.Lists.{any}
-use Rattle.basis.specs.declared.Verdict.TheVariants.{Passes}
-use Rattle.basis.specs.Answers.{first_refusal}
+use Rattle.basis.specs.Answers.{Passes, first_refusal}
 use Rattle.basis.proofs.Bools.{or_false}
 use Rattle.meaning.specs.Register.{Source, year_of, source_count, register_tests, encode}
 use Rattle.meaning.specs.Report.{report_bytes, report_length}

@@ -12,9 +12,8 @@ use Rattle.basis.specs.Lists.{sum, count_up, any}
 use Rattle.basis.proofs.Bools.{clash, or_false}
 use Rattle.basis.proofs.Lists.{◌&◌, each_at}
 use Rattle.meaning.specs.declared.RawLine.{RawLine}
-use Rattle.meaning.specs.declared.Decoded.{Decoded}
-use Rattle.meaning.specs.declared.Decoded.TheVariants.{Good, Bad}
-use Rattle.meaning.specs.Methods.{decoded, is_bad}
+use Rattle.meaning.specs.Methods.{Decoded, decoded, is_bad}
+use Rattle.std.specs.Prelude.{Some, None}
 use Rattle.meaning.specs.Masses.{added, taken, below_zero, rounded, mass, masses, equivalent, limit}
 use Rattle.demands.specs.Table.{adds, takes, CO2, CH4, N2O, table, row_at, FitsAt, amount, FitAll, total, Nearest}
 use Rattle.demands.specs.Refusals.{BelowZero, AboveLimit}
@@ -53,8 +52,8 @@ module _ (m p : ℕ) where
   line_row l e = by (decoded m p l) refl e
     where
       by : (d : Decoded) → decoded m p l ≡ d → is_bad d ≡ false → (i : ℕ) × FitsAt i m p l
-      by (Good x) q e = row-found m p l q
-      by Bad q e = absurd (clash refl e)
+      by (Some x) q e = row-found m p l q
+      by None q e = absurd (clash refl e)
 
   pub rows-found : (ls : List RawLine) → any is_bad (map (decoded m p) ls) ≡ false → (rows : List ℕ) × FitAll m p rows ls
   unfolding any

@@ -14,22 +14,21 @@ use Rattle.basis.proofs.Lists.{each_at}
 use Rattle.meaning.specs.declared.RawLine.{RawLine}
 use Rattle.meaning.specs.declared.Line.{Line}
 use Rattle.meaning.specs.declared.Kind.{Kind}
-use Rattle.meaning.specs.declared.Decoded.{Decoded}
-use Rattle.meaning.specs.declared.Decoded.TheVariants.{Good, Bad}
-use Rattle.meaning.specs.Methods.{within, listed, in_range, given, is_kind, any_unit, gas_unit, in_tonnes, coded, code_from, b_whole, balanced, fuel, flare, metals, petrochemical, cement, nitric_acid, by_method, decoded}
+use Rattle.meaning.specs.Methods.{Decoded, within, listed, in_range, given, is_kind, any_unit, gas_unit, in_tonnes, coded, code_from, b_whole, balanced, fuel, flare, metals, petrochemical, cement, nitric_acid, by_method, decoded}
+use Rattle.std.specs.Prelude.{Some, None}
 use Rattle.demands.specs.Table.{Among, In, content, 1_to_4, 1_to_6, table, row_at, FitsAt, NoRow}
 use Rattle.demands.proofs.Among.{range_among, within_range}
 use Rattle.demands.proofs.Readings.{Reading, each-reads}
 
 -- a good line comes from a row: a test that held, link by link
-bad-good : {x : Line} {A : Type 0} → Bad ≡ Good x → A
+bad-good : {x : Line} {A : Type 0} → None ≡ Some x → A
 bad-good e = let z : ◌≡◌ {A = ℕ} 0 1 = cc in absurd (omega arith)
 
-cond-good : (c : Bool) (y z : Decoded) {x : Line} → cond c y z ≡ Good x → ((c ≡ true) × (y ≡ Good x)) ⊎ (z ≡ Good x)
+cond-good : (c : Bool) (y z : Decoded) {x : Line} → cond c y z ≡ Some x → ((c ≡ true) × (y ≡ Some x)) ⊎ (z ≡ Some x)
 cond-good true y z e = inl (refl, e)
 cond-good false y z e = inr e
 
-given-good : (c : Bool) (l : RawLine) (k : Kind) (other : Decoded) {x : Line} → given c l k other ≡ Good x → (c ≡ true) ⊎ (other ≡ Good x)
+given-good : (c : Bool) (l : RawLine) (k : Kind) (other : Decoded) {x : Line} → given c l k other ≡ Some x → (c ≡ true) ⊎ (other ≡ Some x)
 given-good true l k other e = inl refl
 given-good false l k other e = inr e
 
@@ -106,14 +105,14 @@ module _ (m p : ℕ) (l : RawLine) (pair : listed m p ≡ true) (range : in_rang
       (d.0, same l.unit 1 d.1, one_to_four l.code c.1)
 
   -- a link of a chain of kinds: here, or later
-  link : (c : Bool) (k : Kind) (other : Decoded) {x : Line} → (c ≡ true → Found) → (other ≡ Good x → Found) → given c l k other ≡ Good x → Found
+  link : (c : Bool) (k : Kind) (other : Decoded) {x : Line} → (c ≡ true → Found) → (other ≡ Some x → Found) → given c l k other ≡ Some x → Found
   link c k other here later e = ⊎_elim here later (given-good c l k other e)
 
   -- a link of the chain of methods
-  either : (k : ℕ) (y z : Decoded) {x : Line} → (m ≡ k → y ≡ Good x → Found) → (z ≡ Good x → Found) → cond (eqb m k) y z ≡ Good x → Found
+  either : (k : ℕ) (y z : Decoded) {x : Line} → (m ≡ k → y ≡ Some x → Found) → (z ≡ Some x → Found) → cond (eqb m k) y z ≡ Some x → Found
   either k y z here later e = ⊎_elim (λ h. here (eqb-true m k h.0) h.1) later (cond-good (eqb m k) y z e)
 
-  of_fuel : {x : Line} → m ≡ 1 → fuel l ≡ Good x → Found
+  of_fuel : {x : Line} → m ≡ 1 → fuel l ≡ Some x → Found
   of_fuel e =
       let z = parameter-zero (rw e) in
       link _ _ _
@@ -133,14 +132,14 @@ module _ (m p : ℕ) (l : RawLine) (pair : listed m p ≡ true) (range : in_rang
       let d = kind-and k (gas_unit l) c.0 in
       (d.0, one_or_two l.unit d.1, same l.code 0 c.1)
 
-  of_flare : {x : Line} → m ≡ 2 → flare l ≡ Good x → Found
+  of_flare : {x : Line} → m ≡ 2 → flare l ≡ Some x → Found
   of_flare e =
       let z = parameter-zero (rw e) in
       link _ _ _ (λ t. let f = flare-line 1 t in at 2 (omega arith) e z f.0 f.1 f.2 ranges.1 ranges.2)
       (link _ _ _ (λ t. let f = flare-line 2 t in at 3 (omega arith) e z f.0 f.1 f.2 ranges.1 ranges.2)
       bad-good)
 
-  of_metals : {x : Line} → m ≡ 3 → metals l ≡ Good x → Found
+  of_metals : {x : Line} → m ≡ 3 → metals l ≡ Some x → Found
   of_metals e =
       let z = parameter-zero (rw e) in
       link _ _ _ (λ t. let b = balance-line 10 t in at 4 (omega arith) e z b.0 b.1 b.2 ranges.1 b.3)
@@ -149,7 +148,7 @@ module _ (m p : ℕ) (l : RawLine) (pair : listed m p ≡ true) (range : in_rang
       (link _ _ _ (λ t. let b = balance-line 13 t in at 7 (omega arith) e z b.0 b.1 b.2 ranges.1 b.3)
       bad-good)))
 
-  of_petrochemical : {x : Line} → m ≡ 4 → petrochemical p l ≡ Good x → Found
+  of_petrochemical : {x : Line} → m ≡ 4 → petrochemical p l ≡ Some x → Found
   of_petrochemical e =
       let s = parameter_six (rw e) in
       link _ _ _ (λ t. let b = balance-line 10 t in at 8 (omega arith) e s b.0 b.1 b.2 ranges.1 b.3)
@@ -161,7 +160,7 @@ module _ (m p : ℕ) (l : RawLine) (pair : listed m p ≡ true) (range : in_rang
       at 10 (omega arith) e (⊎_elim (λ h. inl (eqb-true p 2 h)) (λ h. inr (same p 5 h)) (or_either (eqb p 2) (eqb p 5) c.1)) b.0 b.1 b.2 ranges.1 b.3)
       bad-good))
 
-  of_cement : {x : Line} → m ≡ 5 → cement l ≡ Good x → Found
+  of_cement : {x : Line} → m ≡ 5 → cement l ≡ Some x → Found
   of_cement e =
       let z = parameter-zero (rw e) in
       link _ _ _ (λ t. let f = carbonate-line 20 t in at 11 (omega arith) e z f.0 f.1 f.2 ranges.1 ranges.2)
@@ -174,7 +173,7 @@ module _ (m p : ℕ) (l : RawLine) (pair : listed m p ≡ true) (range : in_rang
       at 13 (omega arith) e z k.0 (same l.unit 1 k.1) (same l.code 0 d.1) ranges.1 (eqb-true l.b 10000 c.1))
       bad-good))
 
-  of_nitric_acid : {x : Line} → m ≡ 6 → nitric_acid p l ≡ Good x → Found
+  of_nitric_acid : {x : Line} → m ≡ 6 → nitric_acid p l ≡ Some x → Found
   of_nitric_acid e =
       link _ _ _
       (λ t.
@@ -186,23 +185,23 @@ module _ (m p : ℕ) (l : RawLine) (pair : listed m p ≡ true) (range : in_rang
       bad-good
 
   -- whichever method it is
-  of_method_lem : {x : Line} → by_method m p l ≡ Good x → Found
+  of_method_lem : {x : Line} → by_method m p l ≡ Some x → Found
   unfolding by_method
   of_method_lem =
       either 1 _ _ of_fuel (either 2 _ _ of_flare (either 3 _ _ of_metals (either 4 _ _ of_petrochemical (either 5 _ _ of_cement (either 6 _ _ of_nitric_acid bad-good)))))
 
-pub row-found : (m p : ℕ) (l : RawLine) {x : Line} → decoded m p l ≡ Good x → (i : ℕ) × FitsAt i m p l
+pub row-found : (m p : ℕ) (l : RawLine) {x : Line} → decoded m p l ≡ Some x → (i : ℕ) × FitsAt i m p l
 unfolding decoded
 row-found m p l e =
     ⊎_elim (λ h. let c = and-true (listed m p) (in_range l) h.0 in of_method_lem m p l c.0 c.1 h.1) bad-good
-    (cond-good (listed m p && in_range l) (by_method m p l) Bad e)
+    (cond-good (listed m p && in_range l) (by_method m p l) None e)
 
-pub bad-exactly : (m p : ℕ) (l : RawLine) → (decoded m p l ≡ Bad) ↔ NoRow m p l
+pub bad-exactly : (m p : ℕ) (l : RawLine) → (decoded m p l ≡ None) ↔ NoRow m p l
 bad-exactly m p l = (
   λ e i f. let r = each_at (Reading m p l) table (row_at 15) (each-reads m p l) i f.0 f.1 in bad-good (sym e ∙ r.0),
   λ none. by (decoded m p l) refl none,
 )
   where
-    by : (d : Decoded) → decoded m p l ≡ d → NoRow m p l → d ≡ Bad
-    by (Good x) e none = let r = row-found m p l e in absurd (none r.0 r.1)
-    by Bad e none = refl
+    by : (d : Decoded) → decoded m p l ≡ d → NoRow m p l → d ≡ None
+    by (Some x) e none = let r = row-found m p l e in absurd (none r.0 r.1)
+    by None e none = refl

@@ -6,7 +6,7 @@ use Prim.Native.Nat.{ℕ, ◌<◌}
 use native.Mathlib.Omega.{arith}
 use lib.ListN.{length}
 use Rattle.basis.specs.declared.Answer.{Answer}
-use Rattle.basis.specs.declared.Verdict.TheVariants.{Passes}
+use Rattle.basis.specs.Answers.{Passes}
 use Rattle.basis.specs.Bytes.{Bytes}
 use Rattle.basis.specs.Lists.{Each, sum, count_up, joined}
 use Rattle.basis.proofs.Answers.{each-passes}

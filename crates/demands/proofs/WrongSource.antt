@@ -14,8 +14,7 @@ use Rattle.basis.specs.Lists.{count_up, any}
 use Rattle.basis.proofs.Bools.{clash, and-true, true-and, not_both, either_or, or_either, or_true}
 use Rattle.basis.proofs.Counting.{length_counted, any_some, some-any}
 use Rattle.meaning.specs.Methods.{within, listed}
-use Rattle.meaning.specs.Register.{source_at, line_start, name_start, misplaced, unsound, bad_name_byte, wrong_source}
-use Rattle.meaning.specs.Register.{line_at}
+use Rattle.meaning.specs.Register.{source_at, line_start, name_start, misplaced, unsound, bad_name_byte, wrong_source, line_at}
 use Rattle.demands.specs.Table.{Among, 1_to_6}
 use Rattle.demands.specs.Fields.{sources_in, lines_in, name_bytes_in, number, method, parameter, line_count, first_line, name_length, name_offset, lines_before, names_before, name_at, name_byte}
 use Rattle.demands.specs.Refusals.{Listed, WrongSource}

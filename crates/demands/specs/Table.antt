@@ -1,10 +1,9 @@
 -- Document 01, "Methods and their lines", said a second time: its table as a table, in its own figures. A line of a method and parameter is good
 -- exactly if a row fits it; the row says for which gas it counts, whether it adds or takes, and how much. Assumes nothing.
-use Rattle.std.specs.Prelude.{Bool, true, false, cond, ◌&&◌, List, [], ◌∷◌, ◌⊎◌, ◌↔◌, ◌≢◌, ◌≡◌, ℕ, ◌+◌, ◌*◌, ◌-◌, ◌≤◌, ◌<◌, eqb, length, get_or}
+use Rattle.std.specs.Prelude.{Bool, true, false, cond, ◌&&◌, List, [], ◌∷◌, ◌⊎◌, ◌↔◌, ◌≢◌, ◌≡◌, ℕ, ◌+◌, ◌*◌, ◌-◌, ◌≤◌, ◌<◌, eqb, length, get_or, Some, None}
 use Rattle.meaning.specs.declared.RawLine.{RawLine}
 use Rattle.meaning.specs.declared.Kind.{Kind}
 use Rattle.meaning.specs.declared.Kind.TheVariants.{Fuel, FlareCarbon, FlareMethane, MetalIn, MetalOut, OpeningStock, ClosingStock, Feed, Product, ByProduct, CarbonateCharged, KilnDust, OtherCarbon, NitricAcid}
-use Rattle.meaning.specs.declared.Decoded.TheVariants.{Good, Bad}
 use Rattle.meaning.specs.Methods.{decoded, figures_of}
 use Rattle.meaning.specs.Masses.{adds_to, takes_from}
 
@@ -207,10 +206,10 @@ Nearest n d r = (2 * n < (2 * r + 1) * d) × (2 * r * d ≤ 2 * n + d)
 -- Decoding goes by the table, for every line of every method and parameter: bad exactly if no row fits; no two rows fit; a line that a row fits is
 -- of the row's kind, with its own quantity, content and share, and counts as the row says, with its sign, for its gas, and nothing for any other.
 pub record Tabled : Type 0 where
-  pub bad : (method parameter : ℕ) (l : RawLine) → (decoded method parameter l ≡ Bad) ↔ NoRow method parameter l
+  pub bad : (method parameter : ℕ) (l : RawLine) → (decoded method parameter l ≡ None) ↔ NoRow method parameter l
   pub once : (method parameter i j : ℕ) (l : RawLine) → FitsAt i method parameter l → FitsAt j method parameter l → i ≡ j
   pub good : (method parameter i : ℕ) (l : RawLine) → FitsAt i method parameter l
-      → decoded method parameter l ≡ Good (record { quantity = l.q; kind = kind_of (row_at i) parameter l })
+      → decoded method parameter l ≡ Some (record { quantity = l.q; kind = kind_of (row_at i) parameter l })
   pub numbered : (method parameter i : ℕ) (l : RawLine) → FitsAt i method parameter l
       → figures_of (kind_of (row_at i) parameter l) ≡ record { method = method; kind = l.kind; a = l.a; b = l.b }
   pub added : (method parameter i gas : ℕ) (l : RawLine) → FitsAt i method parameter l → adds_to gas (decoded method parameter l) ≡ amount adds gas (row_at i) parameter l

@@ -1,79 +1,27 @@
 // Numbers in bytes at a place of a slice: the fields of registers and reports.
 #![tactic(auto)]
 
-ghost use Rattle.std.specs.Prelude.{◌≡◌, ◌+◌, ◌<◌, ◌≤◌, length};
+ghost use Rattle.std.specs.Prelude.{◌≡◌, ◌+◌, ◌≤◌, length};
 ghost use Rattle.basis.specs.Bytes.{bytes_of, starts_with, Written};
 ghost use Rattle.fields.specs.Fields.{Field};
 
-fn wide(byte: u8) -> u64
-    ensures { (result ≡ byte) × (result < 256) }
+// The number of N bytes at a place. The compiler makes one load of it, before it mixes the bytes with what is computed of them.
+pub fn number_at<const N: usize>(s: &[u8], at: usize) -> u64
+    requires { (N ≤ 8) × (at + N ≤ length s.now) }
+    ensures { Field N s.now at result }
 {
-    byte as u64
+    let mut word = [0; 8];
+    word[..N].copy_from_slice(&s[at..at + N]);
+    u64::from_le_bytes(word)
 }
 
-pub fn u8_at(s: &[u8], at: usize) -> u64
-    requires { at + 1 ≤ length s.now }
-    ensures { Field 1 s.now at result }
+// The N lowest bytes of v, lowest first, over what stands at a place.
+pub fn put_number<const N: usize>(buf: &mut [u8], at: usize, v: u64)
+    requires { (N ≤ 8) × (at + N ≤ length buf.old) }
+    ensures { Written buf.old at (bytes_of N v) buf.new }
 {
-    wide(s[at])
-}
-
-// Each wider read is a sum of narrower ones, of which the compiler makes one load before it mixes the bytes with what is computed of them.
-pub fn u16_at(s: &[u8], at: usize) -> u64
-    requires { at + 2 ≤ length s.now }
-    ensures { Field 2 s.now at result }
-{
-    u8_at(s, at) + 256 * u8_at(s, at + 1)
-}
-
-// Byte by byte: of a sum of two sums of two bytes the compiler makes one load for x86-64 alone.
-pub fn u32_at(s: &[u8], at: usize) -> u64
-    requires { at + 4 ≤ length s.now }
-    ensures { Field 4 s.now at result }
-{
-    u16_at(s, at) + 65536 * u8_at(s, at + 2) + 16777216 * u8_at(s, at + 3)
-}
-
-pub fn u64_at(s: &[u8], at: usize) -> u64
-    requires { at + 8 ≤ length s.now }
-    ensures { Field 8 s.now at result }
-{
-    u32_at(s, at) + 4294967296 * u32_at(s, at + 4)
-}
-
-// The k lowest bytes of v, lowest first, over what stands at a place.
-fn put_number(buf: &mut [u8], at: usize, k: usize, v: u64)
-    requires { at + k ≤ length buf.old }
-    ensures { Written buf.old at (bytes_of k v) buf.new }
-{
-    let mut i: usize = 0;
-    let mut high = v;
-    while i < k {
-        buf[at + i] = (high % 256) as u8;
-        high = high / 256;
-        i += 1;
-    }
-}
-
-pub fn put_u16(buf: &mut [u8], at: usize, v: u64)
-    requires { at + 2 ≤ length buf.old }
-    ensures { Written buf.old at (bytes_of 2 v) buf.new }
-{
-    put_number(buf, at, 2, v)
-}
-
-pub fn put_u32(buf: &mut [u8], at: usize, v: u64)
-    requires { at + 4 ≤ length buf.old }
-    ensures { Written buf.old at (bytes_of 4 v) buf.new }
-{
-    put_number(buf, at, 4, v)
-}
-
-pub fn put_u64(buf: &mut [u8], at: usize, v: u64)
-    requires { at + 8 ≤ length buf.old }
-    ensures { Written buf.old at (bytes_of 8 v) buf.new }
-{
-    put_number(buf, at, 8, v)
+    let word = v.to_le_bytes();
+    buf[at..at + N].copy_from_slice(&word[..N]);
 }
 
 // A run of k zeros: the number zero in k bytes.
@@ -81,7 +29,7 @@ pub fn put_zeros(buf: &mut [u8], at: usize, k: usize)
     requires { at + k ≤ length buf.old }
     ensures { Written buf.old at (bytes_of k 0) buf.new }
 {
-    put_number(buf, at, k, 0)
+    buf[at..at + k].fill(0);
 }
 
 // Bytes, as a tag, over what stands at a place.
@@ -89,11 +37,7 @@ pub fn put_bytes(buf: &mut [u8], at: usize, bytes: &[u8])
     requires { at + length bytes.now ≤ length buf.old }
     ensures { Written buf.old at bytes.now buf.new }
 {
-    let mut i: usize = 0;
-    while i < bytes.len() {
-        buf[at + i] = bytes[i];
-        i += 1;
-    }
+    buf[at..at + bytes.len()].copy_from_slice(bytes);
 }
 
 // Whether bytes begin with a tag.
@@ -101,12 +45,5 @@ pub fn starts_with(s: &[u8], tag: &[u8]) -> bool
     requires { length tag.now ≤ length s.now }
     ensures { result ≡ starts_with tag.now s.now }
 {
-    let mut i: usize = 0;
-    while i < tag.len() {
-        if s[i] != tag[i] {
-            return false;
-        }
-        i += 1;
-    }
-    true
+    s.starts_with(tag)
 }

@@ -1,20 +1,17 @@
 -- Linear probing: a number stays where its probes come past, so one that finds a free slot is new. Assumes nothing.
-use mathlib.Core.Bool.{Bool, true, false, cond, not, ◌||◌}
+use mathlib.Core.Bool.{Bool, true, false}
 use mathlib.Core.List.{List}
 use mathlib.Core.Logic.{◌≢◌}
 use mathlib.Core.Path.{◌≡◌, refl, sym, ap, ◌∙◌}
 use Prim.Native.Nat.{ℕ, ◌+◌, ◌*◌, ◌/◌, ◌%◌, ◌≤◌, ◌<◌}
 use native.Mathlib.Decide.{dec_lt}
 use native.Mathlib.Omega.{arith}
-use borrow.Author.Tests.{eqb-true, eqb-false, ne_eqb, not-true, not-false}
+use borrow.Author.Tests.{eqb-true, eqb-false}
 use lib.Dec.{eqb}
 use lib.ListN.{length, get_or, set, length-set, replicate, length-replicate}
 use lib.Seq.{take-length, get_or-set_same, get_or-set_other}
-use Rattle.basis.proofs.Bools.{clash, or_false}
 use Rattle.basis.proofs.Counting.{zeros-front}
-use Rattle.hash_repeats.specs.declared.Standing.{Standing}
-use Rattle.hash_repeats.specs.declared.Standing.TheVariants.{Twice, Open}
-use Rattle.hash_repeats.specs.Repeats.{Nonzero, probes, slot_count, home_of, Home, Empty, Probed, Ended, Taken, Met, Inserted}
+use Rattle.hash_repeats.specs.Repeats.{Nonzero, probes, slot_count, home_of, Home, Empty, Probed, Taken, Met}
 
 -- x stands in its home slot or behind it, with no free slot between
 pub record Stands (slots : List ℕ) (x : ℕ) : Type 0 where
@@ -72,22 +69,6 @@ pub record Probing (t : List ℕ) (x home at : ℕ) : Type 0 where
   pub high : at ≤ home + probes
   pub probed : Probed t x at
 
-pub probe_none : {t : List ℕ} {x home : ℕ} → length t ≡ slot_count → Home x home → Probing t x home home
-probe_none {x = x} {home = home} e h =
-    let none : (q : ℕ) → home_of x ≤ q → q < home → ⊥ = λ q l m. omega (arith, h.is) in
-    record {
-      first = h;
-      all = e;
-      high = omega arith;
-      probed =
-          record {
-            low = omega (arith, h.is);
-            room = omega (arith, h.low);
-            taken = λ q l m. absurd (none q l m);
-            other = λ q l m. absurd (none q l m);
-          };
-    }
-
 -- what is so of each slot probed and of the next
 further : (P : ℕ → Type 0) {from at : ℕ} → ((q : ℕ) → from ≤ q → q < at → P q) → P at → (q : ℕ) → from ≤ q → q < at + 1 → P q
 further P {from} {at} h k q l m = by (dec_lt q at)
@@ -95,32 +76,6 @@ further P {from} {at} h k q l m = by (dec_lt q at)
     by : Dec (q < at) → P q
     by (yes n) = h q l n
     by (no n) = let e : q ≡ at = omega arith in rw e k
-
-pub probe_more : {t : List ℕ} {x home at : ℕ} → Probing t x home at → at < home + probes → eqb (get_or t at 0) 0 || eqb (get_or t at 0) x ≡ false
-    → Probing t x home (at + 1)
-probe_more {t} {x} {home} {at} p l e =
-    let c = or_false (eqb (get_or t at 0) 0) (eqb (get_or t at 0) x) e in
-    record {
-      first = p.first;
-      all = p.all;
-      high = omega arith;
-      probed =
-          record {
-            low = omega (arith, p.probed.low);
-            room = omega (arith, p.first.low, p.all);
-            taken = further (λ q. get_or t q 0 ≢ 0) p.probed.taken (eqb-false (get_or t at 0) 0 c.0);
-            other = further (λ q. get_or t q 0 ≢ x) p.probed.other (eqb-false (get_or t at 0) x c.1);
-          };
-    }
-
--- where the probes end: at a slot that is free or the number's own, or behind all the others
-pub probe_ends : {t : List ℕ} {x home at : ℕ} → Probing t x home at → eqb (get_or t at 0) 0 || eqb (get_or t at 0) x ≡ true → Ended t x at
-probe_ends {t} {x} {at = at} p e = record { probed = p.probed; last = λ f g. absurd (clash e (rw (ne_eqb (get_or t at 0) 0 f, ne_eqb (get_or t at 0) x g))) }
-
-pub probe_last : {t : List ℕ} {x home at : ℕ} → Probing t x home at → home + probes ≤ at → Ended t x at
-probe_last p l = record { probed = p.probed; last = λ f g. omega (arith, p.high, p.first.is) }
-
-pub ruleset probing = (home_is, probe_none, probe_more, probe_ends, probe_last)
 
 -- no number stands at two indices
 pub record Differing (ns : List ℕ) : Type 0 where
@@ -193,25 +148,5 @@ module _ {ns t : List ℕ} {i : ℕ} (k : InTable ns t i) where
       let s = k.only m.slot m.taken in
       record { early = s.0; late = i; before = s.1; within = l; same = s.2 ∙ m.is ∙ e }
 
--- the slot that a number came to is free, or it is taken
-module _ {t : List ℕ} {x at : ℕ} (p : Ended t x at) where
-  pub inserted_free : not (eqb (get_or t at 0) 0) ≡ false → Taken t x (set t at x)
-  inserted_free e = record { slot = at; probed = p.probed; free = eqb-true (get_or t at 0) 0 (not-false (eqb (get_or t at 0) 0) e); is = refl }
-
-  pub inserted_taken : {r : Standing} → not (eqb (get_or t at 0) 0) ≡ true → r ≡ cond (eqb (get_or t at 0) x) Twice Open → Inserted t x r t
-  inserted_taken h e = rw e (by (eqb (get_or t at 0) x) refl)
-    where
-      taken : get_or t at 0 ≢ 0
-      taken = eqb-false (get_or t at 0) 0 (not-true (eqb (get_or t at 0) 0) h)
-
-      by : (c : Bool) → eqb (get_or t at 0) x ≡ c → Inserted t x (cond c Twice Open) t
-      by true g = (record { slot = at; taken = taken; is = eqb-true (get_or t at 0) x g }, refl)
-      by false g =
-          let other = eqb-false (get_or t at 0) x g in
-          let last = p.last taken other in
-          (record { probed = rw last at p.probed; taken = rw last at taken; other = rw last at other }, refl)
-
 pub all-free : Empty (replicate slot_count 0)
 all-free = record { all = length-replicate {A = ℕ} slot_count 0; free = λ p. ap (λ (l : List ℕ). get_or l p 0) (sym (take-length (replicate slot_count 0))) ∙ zeros-front slot_count (length {A = ℕ} (replicate slot_count 0)) p }
-
-pub ruleset inserting = (inserted_free, inserted_taken)

@@ -36,16 +36,14 @@ fn probe(slots: &[u32], number: u32) -> usize
     ensures { Ended slots.now number result }
 {
     let home = home_of(number);
-    let mut at = home;
-    while at < home + PROBES {
+    for at in home..home + PROBES {
         let found = slots[at];
         let ends = (found == 0) | (found == number);
         if ends {
             return at;
         }
-        at += 1;
     }
-    at
+    home + PROBES
 }
 
 // What a number that ends at a taken slot tells: it stands there already, or every slot that it may take is taken by others.

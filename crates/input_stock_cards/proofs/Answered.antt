@@ -1,12 +1,11 @@
 -- What is answered and left where a test refuses, where there is no room, and where the amounts are written. Assumes nothing.
-use Rattle.std.proofs.Common.{◌≡◌, ℕ, ◌*◌, ◌%◌, ◌<◌, ◌≤◌, Bool, true, false, not, ltb, List, [], ◌∷◌, length, take, sym, refl, ◌∙◌, arith, length-take, ltb-false, le-ltb, lt-ltb, eq-eqb, eqb-true}
-use native.Mathlib.Decide.{dec_lt}
-use borrow.Author.Tests.{not-true, not-false}
+use Rattle.std.specs.Prelude.{Result, Ok, Err, IsErrAnd}
+use Rattle.std.proofs.Common.{◌≡◌, ℕ, ◌*◌, ◌%◌, ◌<◌, ◌≤◌, Bool, true, false, ltb, List, [], ◌∷◌, length, take, sym, refl, ◌∙◌, arith, length-take, ltb-false, le-ltb, lt-ltb, eq-eqb, eqb-true}
+use borrow.Author.Tests.{not-false}
 use lib.Seq.{take-length}
 use Rattle.basis.specs.declared.Answer.{Answer}
-use Rattle.basis.specs.declared.Verdict.{Verdict}
-use Rattle.basis.specs.declared.Verdict.TheVariants.{Passes, Refuses}
-use Rattle.basis.specs.Answers.{refuse_if, refuse_at_first, first_refusal, answer, Gives}
+use Rattle.basis.specs.declared.Refusal.{Refusal}
+use Rattle.basis.specs.Answers.{Verdict, Passes, Refuses, refuse_if, refuse_at_first, first_refusal, answered, Gives}
 use Rattle.basis.specs.Bytes.{Written}
 use Rattle.basis.specs.First.{first, NoneBelow}
 use Rattle.basis.proofs.Answers.{passed_then, passed-at-all, passed_if, room-there}
@@ -27,9 +26,9 @@ module _ (b : List ℕ) {v : Verdict} (e : v ≡ cards_test b) where
       let h = or_false _ _ (passed_if _ 14 0 (sym e ∙ t)) in
       record { whole = eqb-true (length b % card_length) 0 (not-false _ h.0); few = ltb-false most_cards (card_count b) h.1 }
 
-  pub length-refused : (buffer : List ℕ) {n p : ℕ} {a : Answer} → v ≡ Refuses n p → a ≡ answer v 0 → Gives (amounts b buffer) a buffer
+  pub length-refused : (buffer : List ℕ) {refusal : Refusal} (w : Result ℕ Refusal) → v ≡ Err refusal → IsErrAnd w (λ r. r ≡ refusal) → Gives (amounts b buffer) (answered w) buffer
   unfolding amounts first_refusal
-  length-refused buffer t f = refused-gives (card_tests b) (amount_bytes b) buffer (rw (← e, t)) t f
+  length-refused buffer w t = refused-gives (card_tests b) (amount_bytes b) buffer w (rw (← e, t)) t
 
 module _ (b : List ℕ) (h : Whole b) where
   length-passes : cards_test b ≡ Passes
@@ -54,14 +53,6 @@ module _ (b : List ℕ) (h : Whole b) where
       first-is (λ i. wrong_amount (card_at b i)) n place l (λ k q. (or_false (entry_wrong_at b k) (wrong_amount (card_at b k)) (first_misses (wrong_at b) n k (omega (arith, f)))).1) hit in
       rw (length-passes, entries, is, lt-ltb place n l)
 
-  -- a wrong card is refused
-  refused-some : first (wrong_at b) (card_count b) < card_count b → (n : ℕ) × (p : ℕ) × (first_refusal (card_tests b) ≡ Refuses n p)
-  refused-some l = by (dec_lt (first (entry_wrong_at b) (card_count b)) (card_count b))
-    where
-      by : Dec (first (entry_wrong_at b) (card_count b) < card_count b) → (n : ℕ) × (p : ℕ) × (first_refusal (card_tests b) ≡ Refuses n p)
-      by (yes q) = (14, first (entry_wrong_at b) (card_count b), sym (entry-refused refl q))
-      by (no q) = (15, first (wrong_at b) (card_count b), sym (amount-refused refl (omega arith) refl l))
-
   -- no card is wrong
   all_pass : NoneBelow (wrong_at b) (card_count b) → first_refusal (card_tests b) ≡ Passes
   unfolding first_refusal wrong
@@ -73,18 +64,18 @@ module _ (b : List ℕ) (h : Whole b) where
 
 -- 8, with no other test
 module _ (ns buffer : List ℕ) where
-  pub room-short : {v : Verdict} {n p : ℕ} {a : Answer} → v ≡ refuse_if (ltb (length buffer) (amount_length * length ns)) 8 (amount_length * length ns) → v ≡ Refuses n p
-      → a ≡ answer v 0 → Gives (written [] (in_eights ns) buffer) a buffer
+  pub room-short : {v : Verdict} {refusal : Refusal} (w : Result ℕ Refusal) → v ≡ refuse_if (ltb (length buffer) (amount_length * length ns)) 8 (amount_length * length ns) → v ≡ Err refusal
+      → IsErrAnd w (λ r. r ≡ refusal) → Gives (written [] (in_eights ns) buffer) (answered w) buffer
   unfolding first_refusal
-  room-short e t f = short-gives [] (in_eights ns) buffer refl (length_in_eights ns) e t f
+  room-short w e t f = short-gives [] (in_eights ns) buffer refl (length_in_eights ns) w e t f
 
   pub room_enough : {v : Verdict} → v ≡ refuse_if (ltb (length buffer) (amount_length * length ns)) 8 (amount_length * length ns) → v ≡ Passes
       → amount_length * length ns ≤ length buffer
   room_enough e t = room-there (length buffer) (amount_length * length ns) e t
 
-  pub all-written : {left : List ℕ} {a : Answer} → Written buffer 0 (in_eights ns) left → a ≡ answer Passes (amount_length * length ns) → Gives (written [] (in_eights ns) buffer) a left
+  pub all-written : {left : List ℕ} → Written buffer 0 (in_eights ns) left → Gives (written [] (in_eights ns) buffer) (answered (Ok (amount_length * length ns))) left
   unfolding first_refusal
-  all-written w f = made-gives [] (in_eights ns) buffer refl (length_in_eights ns) w f
+  all-written w = made-gives [] (in_eights ns) buffer refl (length_in_eights ns) w
 
 -- the cards are worked out
 module _ (b : List ℕ) {before after : List ℕ} {right : Bool} (h : Whole b) (w : WorkedOut b before right after) where
@@ -92,21 +83,18 @@ module _ (b : List ℕ) {before after : List ℕ} {right : Bool} (h : Whole b) (
   worked_count l = counted (card_count b) after (omega (arith, w.kept))
 
   -- one of them is wrong
-  pub some-wrong : not right ≡ true → first (wrong_at b) (card_count b) < card_count b
-  some-wrong t = w.some (not-true right t)
+  pub some-wrong : right ≡ false → first (wrong_at b) (card_count b) < card_count b
+  some-wrong t = w.some t
 
-  pub cards-refused : (buffer : List ℕ) {v : Verdict} {a : Answer} → not right ≡ true → v ≡ first_refusal (card_tests b) → a ≡ answer v 0 → Gives (amounts b buffer) a buffer
+  pub cards-refused : (buffer : List ℕ) {refusal : Refusal} → Err refusal ≡ first_refusal (card_tests b) → Gives (amounts b buffer) (answered (Err refusal)) buffer
   unfolding amounts
-  cards-refused buffer t e g =
-      let r = refused-some b h (some-wrong t) in
-      refused-gives (card_tests b) (amount_bytes b) buffer (sym e) (e ∙ r.2) g
+  cards-refused buffer {refusal = refusal} e = refused-gives (card_tests b) (amount_bytes b) buffer (Err refusal) (sym e) refl refl
 
   -- none is, and the amounts stand at the front
-  pub cards-written : (buffer : List ℕ) {a : Answer} {left : List ℕ} → not right ≡ false → Gives (written [] (in_eights (take (card_count b) after)) buffer) a left
+  pub cards-written : (buffer : List ℕ) {a : Answer} {left : List ℕ} → right ≡ true → Gives (written [] (in_eights (take (card_count b) after)) buffer) a left
       → Gives (amounts b buffer) a left
   unfolding amounts amount_bytes written first_refusal
-  cards-written buffer {a} {left} f g =
-      let t = not-false right f in
+  cards-written buffer {a} {left} t g =
       let n = length-amounts_of b in
       let front : take (card_count b) after ≡ amounts_of b = rw n at (read_inside (w.amounts t) 0 (length (amounts_of b)) (omega arith) ∙ take-length (amounts_of b)) in
       let made : in_eights (take (card_count b) after) ≡ amount_bytes b = rw (front, n) in

@@ -1,9 +1,9 @@
 -- A card by its entries as they were read: whether one is out of range, and what the card comes to. Assumes nothing.
-use Rattle.std.proofs.Common.{◌≡◌, ℕ, ◌+◌, ◌*◌, ◌%◌, ◌^◌, ◌<◌, ◌≤◌, Bool, false, ◌||◌, ltb, List, arith, w64, Fits, ltb-false, le-ltb}
+use Rattle.std.proofs.Common.{◌≡◌, ℕ, ◌+◌, ◌%◌, ◌^◌, ◌<◌, ◌≤◌, Bool, false, ◌||◌, ltb, List, arith, w64, Fits, ltb-false, le-ltb}
 use lib.Bits.{bit_or}
 use Rattle.basis.proofs.Bools.{or_false}
 use Rattle.meaning.specs.Methods.{most_quantity}
-use Rattle.meaning.specs.Cards.{Card, card_length, card_at, comes_in, goes_out, amount_of, most_entry, wrong_entries, wrong_amount}
+use Rattle.meaning.specs.Cards.{Card, card_at, comes_in, goes_out, amount_of, most_entry, wrong_entries, wrong_amount}
 use Rattle.fields.specs.Fields.{Field}
 use Rattle.input_stock_cards.specs.Worked.{wrong, Tells, WorkedCard}
 use Rattle.input_stock_cards.proofs.Bits.{joined-below}
@@ -79,16 +79,15 @@ module _ (c : Card) {comes goes a : ℕ} (x : comes ≡ (c.received + c.opening)
           let four = (joined-below (bit_or (bit_or m n) p) q).1 (three, tk.1 h.closing) in
           (joined-below (bit_or (bit_or (bit_or m n) p) q) s).1 (four, ta.1 (omega (arith, amount_exact h, h.not_above)))
 
--- the entries as they were read
-module _ (b : List ℕ) (i : ℕ) {r d o k : ℕ} (fr : Field 8 b (card_length * i) r) (fd : Field 8 b (card_length * i + 8) d) (fo : Field 8 b (card_length * i + 16) o)
-    (fk : Field 8 b (card_length * i + 24) k) where
-  pub entries-judged : ltb most_entry r || ltb most_entry d || ltb most_entry o || ltb most_entry k ≡ wrong_entries (card_at b i)
+-- the entries of a card as they were read
+module _ (b : List ℕ) {r d o k : ℕ} (fr : Field 8 b 0 r) (fd : Field 8 b 8 d) (fo : Field 8 b 16 o) (fk : Field 8 b 24 k) where
+  pub entries-judged : ltb most_entry r || ltb most_entry d || ltb most_entry o || ltb most_entry k ≡ wrong_entries (card_at b 0)
   unfolding wrong_entries card_at
   entries-judged = rw (fr.is, fd.is, fo.is, fk.is)
 
   pub card_worked : {comes goes a m n p q s : ℕ} → comes ≡ (r + o) % 2 ^ 64 → goes ≡ (d + k) % 2 ^ 64 → (a + goes) % 2 ^ 64 ≡ comes → Fits w64 a → Tells (r ≤ most_entry) m
       → Tells (d ≤ most_entry) n → Tells (o ≤ most_entry) p → Tells (k ≤ most_entry) q → Tells (a ≤ most_entry) s
-      → WorkedCard (card_at b i) a (bit_or (bit_or (bit_or (bit_or m n) p) q) s)
+      → WorkedCard (card_at b 0) a (bit_or (bit_or (bit_or (bit_or m n) p) q) s)
   unfolding card_at
   card_worked x y z f tr td to tk ta =
       rw (← fr.is, ← fd.is, ← fo.is, ← fk.is) (card_told (record { received = r; dispatched = d; opening = o; closing = k }) x y z f tr td to tk ta)

@@ -1,4 +1,5 @@
 pub mod Bits
+pub mod Parts
 pub mod Entries
 pub mod Pass
 pub mod Answered

@@ -1,42 +1,63 @@
 -- The passes over the cards: their amounts, one behind another, and the first card that is wrong; and how amounts are written. Assumes nothing.
-use Rattle.std.proofs.Common.{◌≡◌, ℕ, suc, ◌+◌, ◌-◌, ◌*◌, ◌^◌, ◌<◌, ◌≤◌, Bool, true, false, not, ltb, List, [], ◌∷◌, ◌++◌, length, get_or, take, drop, set, replicate, sym, refl, ◌∙◌, add-one, arith, length-set, length-take-le, take_all, drop-cons, take-suc, ltb-false, ltb-true}
+use Rattle.std.proofs.Common.{◌≡◌, ℕ, suc, ◌+◌, ◌-◌, ◌*◌, ◌^◌, ◌<◌, ◌≤◌, Bool, true, false, not, ltb, leb, Bor, Option, None, Some, IfSome, IsSomeAnd, ap, List, [], ◌∷◌, ◌++◌, length, get_or, take, drop, set, replicate, sym, refl, ◌∙◌, add-one, arith, length-set, length-take-le, take_all, drop-cons, take-suc, ltb-false, ltb-true}
 use native.Mathlib.Nat.{sub-zero}
 use native.Mathlib.Decide.{dec_lt}
 use borrow.Author.Tests.{not-true, not-false}
+use Rattle.std.proofs.lemmas.Bool.{lt-leb, le-leb}
 use lib.Bits.{bit_or}
+use Rattle.std.specs.Option.{option_map}
 use Rattle.basis.specs.Bytes.{bytes_of, packed, Written}
 use Rattle.basis.specs.First.{first, NoneBelow}
 use Rattle.basis.proofs.Bools.{clash, not_both}
-use Rattle.basis.proofs.First.{first_misses}
+use Rattle.basis.proofs.First.{first_misses, first-is, first-end}
 use Rattle.basis.proofs.Bytes.{length-bytes_of, splice-none, written_one, written_then}
-use Rattle.basis.proofs.Scans.{Scanning, scan-found, scan_more}
-use Rattle.meaning.specs.Cards.{Card, card_count, card_at, amount_of, wrong_entries, amounts_of, amount_length}
+use Rattle.meaning.specs.Cards.{Card, card_length, card_count, card_at, amount_of, amounts_of, amount_length}
 use Rattle.meaning.proofs.Cards.{length-amounts_of, amount-at, in_eights, length_in_eights}
 use Rattle.fields.proofs.Laws.{Writing, writing_none, writing_then, writing_all}
-use Rattle.input_stock_cards.specs.Worked.{entry_wrong_at, wrong, wrong_at, WorkedCard, WorkedOut}
+use Rattle.input_stock_cards.specs.Worked.{wrong, wrong_at, IsFirst, WorkedCard, WorkedOut}
+use Rattle.input_stock_cards.proofs.Parts.{cut-card}
 use Rattle.input_stock_cards.proofs.Bits.{joined-below}
-
--- the cards before i have their entries in range
-abbrev pub Searching : List ℕ → ℕ → Type 0
-Searching b i = Scanning (entry_wrong_at b) (card_count b) i
-
-module _ (b : List ℕ) {i : ℕ} {w : Bool} (s : Searching b i) (l : i < card_count b) (e : w ≡ wrong_entries (card_at b i)) where
-  pub search_found : w ≡ true → i ≡ first (entry_wrong_at b) (card_count b)
-  search_found t = scan-found s l (sym e ∙ t)
-
-  pub search_more : w ≡ false → Searching b (i + 1)
-  search_more t = scan_more s l (sym e ∙ t)
 
 -- bits tell that a card is wrong
 card_wrong : {c : Card} {amount bits : ℕ} → WorkedCard c amount bits → 2 ^ 34 ≤ bits → wrong c ≡ true
 card_wrong {c} w l = not-false (wrong c) (not_both (not (wrong c)) (λ e. omega (arith, w.tells.1 (not-true (wrong c) e))))
 
-module _ (b : List ℕ) {i amount bits : ℕ} (s : Scanning (wrong_at b) (card_count b) i) (l : i < card_count b) (w : WorkedCard (card_at b i) amount bits) where
-  pub wrong-found : 2 ^ 34 ≤ bits → i ≡ first (wrong_at b) (card_count b)
-  wrong-found m = scan-found s l (card_wrong w m)
+-- bits tell whether a card is wrong
+pub wrong-told : {c : Card} {amount bits : ℕ} → WorkedCard c amount bits → leb (2 ^ 34) bits ≡ wrong c
+wrong-told {c} {amount} {bits} w = by (dec_lt bits (2 ^ 34))
+  where
+    by : Dec (bits < 2 ^ 34) → leb (2 ^ 34) bits ≡ wrong c
+    by (yes p) = lt-leb (2 ^ 34) bits p ∙ sym (w.tells.0 p)
+    by (no p) = le-leb (2 ^ 34) bits (omega arith) ∙ sym (card_wrong w (omega arith))
 
-  pub wrong_more : bits < 2 ^ 34 → Scanning (wrong_at b) (card_count b) (i + 1)
-  wrong_more m = scan_more s l (w.tells.0 m)
+-- an item that was judged, and the part of the cards that it is
+cut-judged : (b : List ℕ) (judge : Card → Bool) (o : Option (Bor (List ℕ))) (k : ℕ) {w : Bool} → IsSomeAnd o (λ x. judge (card_at x.now 0) ≡ w)
+    → IfSome o (λ x. x.now ≡ take card_length (drop (k * card_length) b)) → k < card_count b → judge (card_at b k) ≡ w
+cut-judged b judge None k j e l = absurd j
+cut-judged b judge (Some x) k j e l = ap (λ c. judge c) (sym (cut-card b k (k * card_length) card_length (omega arith) (omega arith) (omega arith)) ∙ ap (λ xs. card_at xs 0) (sym e)) ∙ j
+
+some_and : (P : Bor (List ℕ) → Type 0) (o : Option (Bor (List ℕ))) (x : Bor (List ℕ)) → option_map (λ y. y) o ≡ Some x → IfSome o P → IsSomeAnd o P
+some_and P None x e h = absurd cc
+some_and P (Some y) x e h = h
+
+-- the first of the cards that is judged wrong
+pub first-judged : (b : List ℕ) (judge : Card → Bool) (at : ℕ → Option (Bor (List ℕ))) (r : Option ℕ)
+    → ((k : ℕ) → IfSome (at k) (λ x. x.now ≡ take card_length (drop (k * card_length) b)))
+    → ((i : ℕ) → r ≡ Some i → i < card_count b)
+    → ((i : ℕ) → r ≡ Some i → IsSomeAnd (at i) (λ x. judge (card_at x.now 0) ≡ true))
+    → ((i k : ℕ) → r ≡ Some i → k < i → IsSomeAnd (at k) (λ x. judge (card_at x.now 0) ≡ false))
+    → ((k : ℕ) → r ≡ None → k < card_count b → (x : Bor (List ℕ)) × (option_map (λ y. y) (at k) ≡ Some x))
+    → ((k : ℕ) → r ≡ None → IfSome (at k) (λ x. judge (card_at x.now 0) ≡ false))
+    → IsFirst (λ i. judge (card_at b i)) (card_count b) r
+first-judged b judge at None cuts within hit before there none =
+    first-end (λ i. judge (card_at b i)) (card_count b) (λ k l. cut-judged b judge (at k) k (let x = there k refl l in some_and _ (at k) x.0 x.1 (none k refl)) (cuts k) l)
+first-judged b judge at (Some i) cuts within hit before there none =
+    let l = within i refl in
+    (l, sym (first-is (λ j. judge (card_at b j)) (card_count b) i l (λ k m. cut-judged b judge (at k) k (before i k refl m) (cuts k) (omega arith)) (cut-judged b judge (at i) i (hit i refl) (cuts i) l)))
+
+-- a card that is worked out is the one that stands there
+pub worked-there : {c d : Card} {amount bits : ℕ} → WorkedCard d amount bits → d ≡ c → WorkedCard c amount bits
+worked-there w e = rw (sym e) w
 
 -- bits tell whether the cards before i are right, and their amounts then stand at the front
 pub record Working (b before after : List ℕ) (bits i : ℕ) : Type 0 where

@@ -1,5 +1,5 @@
 -- Cards worked out one after another, and whether one of them is wrong. Assumes nothing.
-use Rattle.std.specs.Prelude.{◌≡◌, ℕ, ◌%◌, ◌^◌, ◌<◌, ◌≤◌, Bool, true, false, ◌||◌, ◌↔◌, List, length}
+use Rattle.std.specs.Prelude.{◌≡◌, ℕ, ◌%◌, ◌^◌, ◌<◌, ◌≤◌, Bool, true, false, Option, None, Some, ◌||◌, ◌↔◌, List, length}
 use Rattle.basis.specs.Bytes.{Written}
 use Rattle.basis.specs.First.{first, NoneBelow}
 use Rattle.meaning.specs.Cards.{Card, card_length, most_cards, card_count, card_at, amount_of, wrong_entries, wrong_amount, amounts_of}
@@ -18,6 +18,11 @@ wrong c = wrong_entries c || wrong_amount c
 
 abbrev pub wrong_at : List ℕ → ℕ → Bool
 wrong_at b i = wrong (card_at b i)
+
+-- the first below n that passes, if there is one
+abbrev pub IsFirst : (ℕ → Bool) → ℕ → Option ℕ → Type 0
+IsFirst test n None = first test n ≡ n
+IsFirst test n (Some i) = (i < n) × (i ≡ first test n)
 
 -- bits tell whether something holds: they are below 2^34 exactly where it does
 abbrev pub Tells : Type 0 → ℕ → Type 0

@@ -1,11 +1,9 @@
 -- How large the numbers of a line are. Assumes nothing.
-use Rattle.std.specs.Prelude.{◌≡◌, List, ℕ, ◌≤◌, get_or}
+use Rattle.std.specs.Prelude.{◌≡◌, List, ℕ, ◌≤◌, get_or, Some, None}
 use Rattle.meaning.specs.declared.RawLine.{RawLine}
 use Rattle.meaning.specs.declared.Kind.{Kind}
 use Rattle.meaning.specs.declared.Kind.TheVariants.{Fuel, FlareCarbon, FlareMethane, MetalIn, MetalOut, OpeningStock, ClosingStock, Feed, Product, ByProduct, CarbonateCharged, KilnDust, OtherCarbon, NitricAcid}
-use Rattle.meaning.specs.declared.Decoded.{Decoded}
-use Rattle.meaning.specs.declared.Decoded.TheVariants.{Good, Bad}
-use Rattle.meaning.specs.Methods.{whole, largest_content, most_quantity}
+use Rattle.meaning.specs.Methods.{Decoded, whole, largest_content, most_quantity}
 use Rattle.meaning.specs.Masses.{co2_of_carbon}
 
 -- n is the entry of a table at a place, within bounds that hold of every entry
@@ -46,5 +44,5 @@ KindFits (NitricAcid factor) = factor ≤ most_acid
 
 -- the numbers of a line that is good are in their ranges
 abbrev pub DecodedFits : Decoded → Type 0
-DecodedFits (Good l) = (l.quantity ≤ most_quantity) × KindFits l.kind
-DecodedFits Bad = Unit {0}
+DecodedFits (Some l) = (l.quantity ≤ most_quantity) × KindFits l.kind
+DecodedFits None = Unit {0}

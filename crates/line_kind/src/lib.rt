@@ -1,12 +1,11 @@
 // Document 01, "Methods and their lines": a line read to its kind.
 #![tactic(auto)]
 
-ghost use Rattle.std.specs.Prelude.{true, ◌≡◌};
-ghost use Rattle.meaning.specs.declared.Decoded.TheVariants.{Bad};
+ghost use Rattle.std.specs.Prelude.{true, ◌≡◌, None};
 ghost use Rattle.meaning.specs.Methods.{listed, carbonates, acids, balanced, most_content, in_range, given, fuel, flare, metals, petrochemical, cement, nitric_acid, by_method, decoded};
 ghost use Rattle.line_kind.specs.Ranges.{TableEntry, InRanges, KindFits, DecodedFits, carbon_factor, most_acid};
 
-use meaning::{Decoded, Kind, Line, RawLine};
+use meaning::{Kind, Line, RawLine};
 
 // The whole of a share, in ten-thousandths.
 pub const WHOLE: u64 = 10000;
@@ -35,20 +34,17 @@ fn acid_factor(parameter: u64) -> u64
 }
 
 // A line of the kind where the test holds, and else a bad one.
-fn line_if(line: RawLine, holds: bool, kind: Kind) -> Decoded
+fn line_if(line: RawLine, holds: bool, kind: Kind) -> Option<Line>
     requires { InRanges line × KindFits kind }
-    ensures { (result ≡ given holds line kind Bad) × DecodedFits result }
+    ensures { (result ≡ given holds line kind None) × DecodedFits result }
 {
-    if holds {
-        return Decoded::Good(Line {
-            quantity: line.q,
-            kind,
-        });
-    }
-    Decoded::Bad
+    holds.then_some(Line {
+        quantity: line.q,
+        kind,
+    })
 }
 
-fn decode_fuel(line: RawLine) -> Decoded
+fn decode_fuel(line: RawLine) -> Option<Line>
     requires { InRanges line }
     ensures { (result ≡ fuel line) × DecodedFits result }
 {
@@ -64,7 +60,7 @@ fn decode_fuel(line: RawLine) -> Decoded
     )
 }
 
-fn decode_flare(line: RawLine) -> Decoded
+fn decode_flare(line: RawLine) -> Option<Line>
     requires { InRanges line }
     ensures { (result ≡ flare line) × DecodedFits result }
 {
@@ -83,7 +79,7 @@ fn decode_flare(line: RawLine) -> Decoded
     match kind {
         1 => line_if(line, fits, carbon),
         2 => line_if(line, fits, methane),
-        _ => Decoded::Bad,
+        _ => None,
     }
 }
 
@@ -94,7 +90,7 @@ fn is_balanced(line: RawLine) -> bool
     (1 <= line.unit) & (line.unit <= 4) & (line.code == 0) & (line.b == WHOLE)
 }
 
-fn decode_metals(line: RawLine) -> Decoded
+fn decode_metals(line: RawLine) -> Option<Line>
     requires { InRanges line }
     ensures { (result ≡ metals line) × DecodedFits result }
 {
@@ -106,11 +102,11 @@ fn decode_metals(line: RawLine) -> Decoded
         11 => line_if(line, fits, Kind::MetalOut { carbon }),
         12 => line_if(line, fits, Kind::OpeningStock { carbon }),
         13 => line_if(line, fits, Kind::ClosingStock { carbon }),
-        _ => Decoded::Bad,
+        _ => None,
     }
 }
 
-fn decode_petrochemical(parameter: u64, line: RawLine) -> Decoded
+fn decode_petrochemical(parameter: u64, line: RawLine) -> Option<Line>
     requires { InRanges line }
     ensures { (result ≡ petrochemical parameter line) × DecodedFits result }
 {
@@ -122,11 +118,11 @@ fn decode_petrochemical(parameter: u64, line: RawLine) -> Decoded
         10 => line_if(line, fits, Kind::Feed { carbon }),
         11 => line_if(line, fits, Kind::Product { carbon }),
         14 => line_if(line, by_product, Kind::ByProduct { carbon }),
-        _ => Decoded::Bad,
+        _ => None,
     }
 }
 
-fn decode_cement(line: RawLine) -> Decoded
+fn decode_cement(line: RawLine) -> Option<Line>
     requires { InRanges line }
     ensures { (result ≡ cement line) × DecodedFits result }
 {
@@ -157,11 +153,11 @@ fn decode_cement(line: RawLine) -> Decoded
             let fits = (line.unit == 1) & (line.code == 0) & (line.b == WHOLE);
             line_if(line, fits, Kind::OtherCarbon { carbon: line.a })
         }
-        _ => Decoded::Bad,
+        _ => None,
     }
 }
 
-fn decode_nitric_acid(parameter: u64, line: RawLine) -> Decoded
+fn decode_nitric_acid(parameter: u64, line: RawLine) -> Option<Line>
     requires { InRanges line }
     ensures { (result ≡ nitric_acid parameter line) × DecodedFits result }
 {
@@ -174,7 +170,7 @@ fn decode_nitric_acid(parameter: u64, line: RawLine) -> Decoded
     line_if(line, made, Kind::NitricAcid { factor })
 }
 
-fn decode_by_method(method: u64, parameter: u64, line: RawLine) -> Decoded
+fn decode_by_method(method: u64, parameter: u64, line: RawLine) -> Option<Line>
     requires { InRanges line }
     ensures { (result ≡ by_method method parameter line) × DecodedFits result }
 {
@@ -185,7 +181,7 @@ fn decode_by_method(method: u64, parameter: u64, line: RawLine) -> Decoded
         4 => decode_petrochemical(parameter, line),
         5 => decode_cement(line),
         6 => decode_nitric_acid(parameter, line),
-        _ => Decoded::Bad,
+        _ => None,
     }
 }
 
@@ -207,13 +203,12 @@ fn is_in_range(line: RawLine) -> bool
 }
 
 // A raw line of a method and parameter that are listed, read to its kind, or bad.
-pub fn decode(method: u64, parameter: u64, line: RawLine) -> Decoded
+pub fn decode(method: u64, parameter: u64, line: RawLine) -> Option<Line>
     requires { listed method parameter ≡ true }
     ensures { (result ≡ decoded method parameter line) × DecodedFits result }
 {
-    let sound = is_in_range(line);
-    if sound {
+    if is_in_range(line) {
         return decode_by_method(method, parameter, line);
     }
-    Decoded::Bad
+    None
 }

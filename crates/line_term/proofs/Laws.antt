@@ -5,8 +5,6 @@ use Prim.Native.Nat.{ℕ, ◌*◌, ◌≤◌, ◌<◌}
 use native.Mathlib.Nat.{mul_assoc, mul-one, mul-le-mul}
 use native.Mathlib.Omega.{arith}
 use lib.ListN.{get_or}
-use mir.Syntax.{w64}
-use mir.Val.{Fits}
 use Rattle.meaning.specs.declared.Kind.{Kind}
 use Rattle.meaning.specs.declared.Kind.TheVariants.{Fuel, FlareCarbon, FlareMethane, MetalIn, MetalOut, OpeningStock, ClosingStock, Feed, Product, ByProduct, CarbonateCharged, KilnDust, OtherCarbon, NitricAcid}
 use Rattle.meaning.specs.Methods.{whole, largest_content}
@@ -17,9 +15,6 @@ use Rattle.line_term.specs.Terms.{contributed, gas_term, co2_term, carbon_term, 
 
 share-fits : {share factor : ℕ} → share ≤ whole → factor ≤ carbon_factor → share * factor ≤ most_factor
 share-fits s f = mul-le-mul s f
-
-pub product-fits : (share factor : ℕ) → (share ≤ whole) × (factor ≤ carbon_factor) → Fits w64 (share * factor)
-product-fits share factor h = omega (arith, share-fits h.0 h.1)
 
 gas_weighs : {gas content factor : ℕ} → gas < gas_count → content ≤ largest_content → factor ≤ get_or most_factors gas 0
     → Weighs (λ q. contributed false gas (q * content * factor)) (gas_term gas content factor)

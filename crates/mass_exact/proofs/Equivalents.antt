@@ -1,113 +1,97 @@
 -- The equivalent gas by gas, and its limit exactly. Assumes nothing.
 use mathlib.Core.Bool.{Bool, true, false, cond}
-use mathlib.Core.List.{List}
-use mathlib.Core.Logic.{◌↔◌}
+use mathlib.Core.List.{List, [], ◌∷◌}
+use mathlib.Core.Logic.{◌⊎◌, ⊎_elim}
 use mathlib.Core.Path.{◌≡◌, refl, sym, ap, ◌∙◌}
+use Rattle.std.specs.Prelude.{Some, None}
+use Rattle.std.specs.Bool.{then_some}
 use Prim.Native.Nat.{ℕ, ◌+◌, ◌*◌, ◌≤◌, ◌<◌}
 use native.Mathlib.Nat.{le_trans, mul-le-mul_left, mul-le-mul_right}
-use native.Mathlib.Numerals.{add-one}
 use native.Mathlib.Omega.{arith}
-use borrow.Author.Tests.{leb-true, leb-false, le-leb, lt-leb}
+use borrow.Author.Tests.{leb-true, leb-false, lt-leb}
+use Rattle.std.proofs.lemmas.Option.{cond_some, none-some}
 use lib.Dec.{leb}
 use lib.ListN.{length, get_or, drop}
 use lib.Seq.{drop-cons}
+use native.Mathlib.Numerals.{add-one}
 use mir.Syntax.{w64}
 use mir.Val.{Fits}
-use Rattle.basis.proofs.Tables.{everywhere_at}
+use Rattle.basis.specs.Lists.{Each}
 use Rattle.meaning.specs.Masses.{warming, gas_count, weighed, equivalent, limit}
-use Rattle.mass_exact.specs.declared.Weighed.TheVariants.{Within, Above}
 use Rattle.mass_exact.specs.Equivalents.{within_limit}
 
-pub within-limit : (ms : List ℕ) → equivalent ms ≤ limit → within_limit ms ≡ Within (equivalent ms)
-unfolding within_limit
-within-limit ms h = rw (le-leb (equivalent ms) limit h)
-
-pub above-limit : (ms : List ℕ) → limit < equivalent ms → within_limit ms ≡ Above
+pub above-limit : (ms : List ℕ) → limit < equivalent ms → within_limit ms ≡ None
 unfolding within_limit
 above-limit ms h = rw (lt-leb (equivalent ms) limit h)
 
-never : {n : ℕ} → Within n ≡ Above → ⊥
-never e = let z : ◌≡◌ {A = ℕ} 0 1 = cc in omega arith
-
--- `Within` exactly where the equivalent is at most the limit, and then it is the equivalent
-pub within-exactly : (ms : List ℕ) (e : ℕ) → within_limit ms ≡ Within e ↔ ((equivalent ms ≤ limit) × (e ≡ equivalent ms))
+-- `Some` only where the equivalent is at most the limit, and then it is the equivalent
+pub some-within : (ms : List ℕ) {e : ℕ} → within_limit ms ≡ Some e → (e ≤ limit) × (e ≡ equivalent ms)
 unfolding within_limit
-within-exactly ms e = (by (leb (equivalent ms) limit) refl, λ h. within-limit ms h.0 ∙ ap Within (sym h.1))
-  where
-    by : (b : Bool) → leb (equivalent ms) limit ≡ b → cond b (Within (equivalent ms)) Above ≡ Within e → (equivalent ms ≤ limit) × (e ≡ equivalent ms)
-    by true t p = (leb-true (equivalent ms) limit t, cc)
-    by false t p = absurd (never (sym p))
+some-within ms h = let s = cond_some (leb (equivalent ms) limit) _ _ h in (rw s.1 at (leb-true (equivalent ms) limit s.0), sym s.1)
 
--- `Above` exactly where it is above the limit
-pub above-exactly : (ms : List ℕ) → within_limit ms ≡ Above ↔ limit < equivalent ms
+-- `None` only where it is above the limit
+pub none-above : (ms : List ℕ) → within_limit ms ≡ None → limit < equivalent ms
 unfolding within_limit
-above-exactly ms = (by (leb (equivalent ms) limit) refl, above-limit ms)
+none-above ms = by (leb (equivalent ms) limit) refl
   where
-    by : (b : Bool) → leb (equivalent ms) limit ≡ b → cond b (Within (equivalent ms)) Above ≡ Above → limit < equivalent ms
-    by true t p = absurd (never p)
+    by : (b : Bool) → leb (equivalent ms) limit ≡ b → cond b (Some (equivalent ms)) None ≡ None → limit < equivalent ms
+    by true t p = absurd (none-some _ (sym p))
     by false t p = leb-false (equivalent ms) limit t
 
--- no gas weighs more than N2O
+-- no gas weighs more than N2O, and none less than CO2
 abbrev heaviest : ℕ
 heaviest = 298
 
-weight_fits : (gas : ℕ) → gas < gas_count → get_or warming gas 0 ≤ heaviest
-weight_fits gas h = leb-true _ _ (everywhere_at (λ i w. leb w heaviest) warming 0 refl gas h)
+-- what is left to weigh, each mass by its weight
+pub record Weighing (ms : List ℕ) (sum : ℕ) (left weights : List ℕ) : Type 0 where
+  pub light : Each (λ w. (0 < w) × (w ≤ heaviest)) weights
+  pub sum_fits : sum + heaviest * limit * length weights ≤ heaviest * limit * gas_count
+  pub rest : sum + weighed weights left ≡ equivalent ms
 
--- the gases before one are weighed, each of a mass within the limit
-pub record Weighing (ms : List ℕ) (sum gas : ℕ) : Type 0 where
-  pub gas-fits : gas ≤ gas_count
-  pub sum_fits : sum ≤ heaviest * limit * gas
-  pub rest : sum + weighed (drop gas warming) (drop gas ms) ≡ equivalent ms
+weighed-nothing : (weights left : List ℕ) → (length left ≡ 0) ⊎ (length weights ≡ 0) → weighed weights left ≡ 0
+unfolding weighed
+weighed-nothing [] left end = refl
+weighed-nothing (w ∷ weights) [] end = refl
+weighed-nothing (w ∷ weights) (m ∷ left) end = ⊎_elim (λ h. absurd (omega arith)) (λ h. absurd (omega arith)) end
 
-pub weighing_first : (ms : List ℕ) → Weighing ms 0 0
+pub weighing_first : (ms : List ℕ) → Weighing ms 0 ms warming
 unfolding equivalent
-weighing_first ms = record { gas-fits = omega arith; sum_fits = omega arith; rest = omega arith }
+weighing_first ms = record { light = omega arith; sum_fits = omega arith; rest = omega arith }
 
--- a gas of a source that has all gases is weighed before the rest
-next_weighed : (ms : List ℕ) (gas : ℕ) → gas < gas_count → length ms ≡ gas_count
-    → weighed (drop gas warming) (drop gas ms) ≡ get_or warming gas 0 * get_or ms gas 0 + weighed (drop (gas + 1) warming) (drop (gas + 1) ms)
-unfolding weighed
-next_weighed ms gas g e =
-    let m : gas < length ms = omega arith in
-    rw (add-one gas, drop-cons warming gas 0 g, drop-cons ms gas 0 m)
+-- the mass of a gas and its weight come first of what is left
+pub weighed-now : (xs : List ℕ) (gas : ℕ) → gas < length xs → drop gas xs ≡ get_or xs gas 0 ∷ drop (gas + 1) xs
+weighed-now xs gas h = drop-cons xs gas 0 h ∙ ap (λ (k : ℕ). get_or xs gas 0 ∷ drop k xs) (sym (add-one gas))
 
-module _ {ms : List ℕ} {sum gas weight : ℕ} (l : Weighing ms sum gas) (g : gas < gas_count) (e : length ms ≡ gas_count) (is : weight ≡ get_or warming gas 0) (p : 0 < weight) where
-  -- a mass that the limit holds
-  weighing_holds : get_or ms gas 0 ≤ limit → weight * get_or ms gas 0 ≤ heaviest * limit
-  weighing_holds h =
-      let w : weight ≤ heaviest = rw is (weight_fits gas g) in
-      le_trans (mul-le-mul_right (get_or ms gas 0) w) (mul-le-mul_left heaviest h)
+module _ {ms : List ℕ} {sum : ℕ} {left weights : List ℕ} (l : Weighing ms sum left weights) where
+  module _ {mass weight : ℕ} {left' weights' : List ℕ} (next : (left ≡ mass ∷ left') × (weights ≡ weight ∷ weights')) where
+    here : Weighing ms sum (mass ∷ left') (weight ∷ weights')
+    here = rw (next.0, next.1) at l
 
-  pub weighing_fits : get_or ms gas 0 ≤ limit → Fits w64 (weight * get_or ms gas 0)
-  weighing_fits h = record { fits = omega (arith, weighing_holds h) }
+    -- a mass that the limit holds
+    weighing_holds : mass ≤ limit → weight * mass ≤ heaviest * limit
+    weighing_holds h = le_trans (mul-le-mul_right mass here.light.0.1) (mul-le-mul_left heaviest h)
 
-  pub weighing_sum-fits : get_or ms gas 0 ≤ limit → Fits w64 (sum + weight * get_or ms gas 0)
-  weighing_sum-fits h = record { fits = omega (arith, weighing_holds h, l.sum_fits) }
+    pub weighing_fits : mass ≤ limit → Fits w64 (sum + weight * mass)
+    weighing_fits h = record { fits = omega (arith, weighing_holds h, here.sum_fits) }
 
-  pub weighing_next : get_or ms gas 0 ≤ limit → Weighing ms (sum + weight * get_or ms gas 0) (gas + 1)
-  weighing_next h =
-      let t = weighing_holds h in
-      let n = rw (← is) at (next_weighed ms gas g e) in
-      record { gas-fits = omega arith; sum_fits = omega (arith, l.sum_fits); rest = omega (arith, l.rest) }
+    pub weighing_next : mass ≤ limit → Weighing ms (sum + weight * mass) left' weights'
+    unfolding weighed
+    weighing_next h = record { light = here.light.1; sum_fits = omega (arith, weighing_holds h, here.sum_fits); rest = omega (arith, here.rest) }
 
-  -- a mass that it does not hold passes it, since no gas weighs less than CO2
-  pub weighing_none : limit < get_or ms gas 0 → Above ≡ within_limit ms
-  weighing_none h =
-      let t : get_or ms gas 0 ≤ weight * get_or ms gas 0 = omega (arith, mul-le-mul_right (get_or ms gas 0) p) in
-      let n = rw (← is) at (next_weighed ms gas g e) in
-      sym (above-limit ms (omega (arith, l.rest)))
+    -- a mass that it does not hold passes it
+    pub weighing_none : limit < mass → None ≡ within_limit ms
+    unfolding weighed
+    weighing_none h = sym (above-limit ms (omega (arith, here.rest, mul-le-mul_right mass here.light.0.0)))
 
--- all gases are weighed
-weighing_all : {ms : List ℕ} {sum gas : ℕ} → Weighing ms sum gas → gas_count ≤ gas → sum ≡ equivalent ms
-unfolding weighed
-weighing_all {ms} {sum} {gas} l h =
-    let e : gas ≡ gas_count = omega (arith, l.gas-fits) in
-    let r : sum + 0 ≡ equivalent ms = rw e at l.rest in
-    omega arith
+  -- where masses or weights are at their end, all are weighed
+  module _ (end : (length left ≡ 0) ⊎ (length weights ≡ 0)) where
+    weighing_all : sum ≡ equivalent ms
+    weighing_all = omega (arith, l.rest, weighed-nothing weights left end)
 
-pub weighing_above : {ms : List ℕ} {sum gas : ℕ} → Weighing ms sum gas → gas_count ≤ gas → limit < sum → Above ≡ within_limit ms
-weighing_above {ms} l h m = sym (above-limit ms (omega (arith, weighing_all l h)))
-
-pub weighing_within : {ms : List ℕ} {sum gas : ℕ} → Weighing ms sum gas → gas_count ≤ gas → sum ≤ limit → Within sum ≡ within_limit ms
-weighing_within {ms} l h m = ap Within (weighing_all l h) ∙ sym (within-limit ms (omega (arith, weighing_all l h)))
+    pub weighing_end : then_some (leb sum limit) sum ≡ within_limit ms
+    unfolding within_limit
+    weighing_end = rw (← weighing_all) (by (leb sum limit))
+      where
+        by : (b : Bool) → then_some b sum ≡ cond b (Some sum) None
+        by true = refl
+        by false = refl

@@ -1,14 +1,13 @@
 -- One scale serves every gas: N over a gas's own divisor is as many grams as N in ten-billionths of a gram. Assumes nothing.
 use mathlib.Core.List.{List}
 use mathlib.Core.Path.{◌≡◌, refl, sym}
-use Prim.Native.Nat.{ℕ, ◌+◌, ◌*◌, ◌-◌, ◌≤◌, ◌<◌}
-use native.Mathlib.Nat.{mul-one, mul_assoc, mul_comm, mul-sub, add-mul, mul-div-mul_right, mul-le-mul_right}
-use native.Mathlib.Omega.{arith}
+use Prim.Native.Nat.{ℕ, ◌+◌, ◌*◌, ◌-◌, ◌<◌}
+use native.Mathlib.Nat.{mul-one, mul_assoc, mul_comm, mul-sub, add-mul, mul-div-mul_right}
 use borrow.Author.Tests.{leb-true, eqb-true}
 use lib.Dec.{eqb, leb, ltb}
 use lib.ListN.{get_or}
-use Rattle.meaning.specs.declared.Decoded.{Decoded}
-use Rattle.meaning.specs.Masses.{divisors, carbon_dioxide, gas_count, warming, added, taken, below_zero, rounded, mass, most_factor, most_factors}
+use Rattle.meaning.specs.Methods.{Decoded}
+use Rattle.meaning.specs.Masses.{divisors, carbon_dioxide, gas_count, added, taken, below_zero, rounded, mass}
 use Rattle.mass_exact.specs.Amounts.{gram, scales, scale}
 use Rattle.basis.proofs.Tables.{everywhere_at}
 
@@ -26,14 +25,6 @@ module _ (gas : ℕ) (h : gas < gas_count) where
 
   scale-above-zero : 0 < scale gas
   scale-above-zero = leb-true _ _ (everywhere_at (λ i s. leb 1 s) scales 0 refl gas h)
-
-  pub warming-above-zero : 0 < get_or warming gas 0
-  warming-above-zero = leb-true _ _ (everywhere_at (λ i w. leb 1 w) warming 0 refl gas h)
-
-  pub factor_scaled : (factor : ℕ) → factor ≤ get_or most_factors gas 0 → factor * scale gas ≤ most_factor
-  factor_scaled factor l =
-      let m : get_or most_factors gas 0 * scale gas ≤ most_factor = leb-true _ _ (everywhere_at (λ i f. leb (f * scale i) most_factor) most_factors 0 refl gas h) in
-      omega (arith, mul-le-mul_right (scale gas) l)
 
   pub grams_scaled : (n : ℕ) → rounded (n * scale gas) gram ≡ rounded n (get_or divisors gas 1)
   grams_scaled n = rw divisor_scaled at (rounded_scaled n (get_or divisors gas 1) (scale gas) scale-above-zero)

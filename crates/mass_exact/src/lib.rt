@@ -2,7 +2,7 @@
 #![tactic(auto)]
 
 ghost use Rattle.std.specs.Prelude.{◌≡◌, false, ◌+◌, ◌*◌, ◌≤◌, ◌<◌, ltb, get_or};
-ghost use Rattle.meaning.specs.Masses.{warming, gas_count, most_factors, most_factor, rounded};
+ghost use Rattle.meaning.specs.Masses.{gas_count, most_factors, most_factor, rounded};
 ghost use Rattle.mass_exact.specs.Amounts.{word, gram, value, scale, Ranged, Room, Added, Subtracted};
 ghost use Rattle.mass_exact.specs.Equivalents.{within_limit};
 
@@ -118,38 +118,18 @@ pub fn round(a: Amount) -> u64
     a.high / FIVES * 4194304 + (a.high % FIVES * WORD + a.low + HALF) / GRAM
 }
 
-// The equivalent of a source, or that it is above the limit.
-#[derive(Clone, Copy)]
-pub enum Weighed {
-    Within(u64),
-    Above,
-}
-
-fn warming_of(gas: usize) -> u64
-    requires { gas < gas_count }
-    ensures { (result ≡ get_or warming gas 0) × (0 < result) }
-{
-    WARMING[gas]
-}
-
-// Gas by gas: a mass is multiplied only where it is itself within the limit, so that three products are within 64 bits. One limit for all gases
-// is one number in a register.
-pub fn equivalent(masses: [u64; GASES]) -> Weighed
+// Gas by gas: a mass is multiplied only where it is itself within the limit, so that three products are within 64 bits. None is above the limit. One
+// limit for all gases is one number in a register.
+pub fn equivalent(masses: [u64; GASES]) -> Option<u64>
     ensures { result ≡ within_limit masses }
 {
-    let mut sum: u64 = 0;
-    let mut gas = 0;
-    while gas < GASES {
-        let weight = warming_of(gas);
-        let mass = masses[gas];
-        if LIMIT < mass {
-            return Weighed::Above;
+    let mut sum = 0;
+    for (gas, mass) in masses.iter().enumerate() {
+        let above = LIMIT < *mass;
+        if above {
+            return None;
         }
-        sum += weight * mass;
-        gas += 1;
+        sum += WARMING[gas] * *mass;
     }
-    if LIMIT < sum {
-        return Weighed::Above;
-    }
-    Weighed::Within(sum)
+    (sum <= LIMIT).then_some(sum)
 }

@@ -14,7 +14,7 @@ use Rattle.basis.proofs.Rows.{number_at-drop}
 use Rattle.fields.specs.Fields.{Field}
 use Rattle.meaning.specs.declared.RawLine.{RawLine}
 use Rattle.meaning.specs.declared.Line.{Line}
-use Rattle.meaning.specs.declared.Decoded.TheVariants.{Good}
+use Rattle.std.specs.Prelude.{Some}
 use Rattle.meaning.specs.Register.{line_of}
 use Rattle.meaning.specs.Masses.{gas_count, carbon_dioxide, contribution, adds_to, takes_from}
 use Rattle.line_kind.specs.Ranges.{KindFits}
@@ -74,7 +74,7 @@ module _ (s : Sums) (l : Line) (t : Term) (factor : ℕ) (room : Roomy 1 s) (fit
       let n : l.quantity * t.content * factor ≡ product * scale carbon_dioxide = scaled ∙ ap (λ (x : ℕ). product * scale x) g in
       record {
         gases = room.gases;
-        added = λ gas h. unchanged (get_or s.added gas nothing) (adds_to gas (Good l)) (scale gas) (rw is (same-zero (eqb carbon_dioxide gas)));
+        added = λ gas h. unchanged (get_or s.added gas nothing) (adds_to gas (Some l)) (scale gas) (rw is (same-zero (eqb carbon_dioxide gas)));
         taken = rw is (changed (rw n at x));
       }
 
@@ -87,12 +87,12 @@ module _ (s : Sums) (l : Line) (t : Term) (factor : ℕ) (room : Roomy 1 s) (fit
       record {
         gases = length-set s.added place more ∙ room.gases;
         added = λ gas h. by gas h (ℕ_discrete gas place) is (rw n at x);
-        taken = unchanged s.taken (takes_from carbon_dioxide (Good l)) (scale carbon_dioxide) (rw is (same-zero (eqb place carbon_dioxide)));
+        taken = unchanged s.taken (takes_from carbon_dioxide (Some l)) (scale carbon_dioxide) (rw is (same-zero (eqb place carbon_dioxide)));
       }
     where
       by : (gas : ℕ) → gas < gas_count → Dec (gas ≡ place) → contribution l.quantity l.kind ≡ contributed false place product
           → Added (get_or s.added place nothing) (product * scale place) more
-          → More (get_or s.added gas nothing) (adds_to gas (Good l) * scale gas) (get_or (set s.added place more) gas nothing)
+          → More (get_or s.added gas nothing) (adds_to gas (Some l) * scale gas) (get_or (set s.added place more) gas nothing)
       by gas h (yes q) is x =
           let b : place < length s.added = omega (arith, room.gases) in
           rw (q, is, eq-eqb place place refl, get_or-set_same s.added place more nothing b) (changed x)

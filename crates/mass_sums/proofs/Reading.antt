@@ -5,16 +5,14 @@ use Prim.Native.Nat.{ℕ, suc, ◌+◌, ◌*◌, ◌-◌, ◌≤◌, ◌<◌}
 use native.Mathlib.Nat.{add-zero, zero-mul, add-mul}
 use native.Mathlib.Omega.{arith}
 use lib.ListN.{get_or, drop, replicate, get_or-replicate}
-use Rattle.basis.specs.declared.Verdict.TheVariants.{Passes, Refuses}
+use Rattle.basis.specs.Answers.{Passes, Refuses, first_refusal}
 use Rattle.basis.specs.Lists.{sum, count_up}
-use Rattle.basis.specs.Answers.{first_refusal}
 use Rattle.basis.proofs.Lists.{sum_append}
 use Rattle.basis.proofs.Counting.{counted_append}
 use Rattle.meaning.specs.declared.Line.{Line}
 use Rattle.meaning.specs.declared.RawLine.{RawLine}
-use Rattle.meaning.specs.declared.Decoded.{Decoded}
-use Rattle.meaning.specs.declared.Decoded.TheVariants.{Good, Bad}
-use Rattle.meaning.specs.Methods.{most_quantity, decoded}
+use Rattle.meaning.specs.Methods.{Decoded, most_quantity, decoded}
+use Rattle.std.specs.Prelude.{Some, None}
 use Rattle.line_kind.specs.Ranges.{KindFits, DecodedFits}
 use Rattle.meaning.specs.Register.{most_lines, line_length, line_of}
 use Rattle.meaning.specs.Masses.{gas_count, carbon_dioxide, added, taken, adds_to, takes_from}
@@ -22,7 +20,7 @@ use Rattle.mass_exact.specs.Amounts.{scale, nothing}
 use Rattle.mass_exact.proofs.Amounts.{value-nothing, room-first, room_less}
 use Rattle.mass_sums.specs.declared.Sums.{Sums}
 use Rattle.mass_sums.specs.Sums.{Roomy, Counts}
-use Rattle.mass_sums.specs.Lines.{read_at, read_from, verdict_from, LinesStand, SumsOf, Reads}
+use Rattle.mass_sums.specs.Lines.{read_at, read_from, verdict_from, LinesStand, SumsOf}
 
 -- one line more is read behind the others
 read_more : (b : List ℕ) (m p first k : ℕ) → read_from b m p first (k + 1) ≡ read_from b m p first k ++ (read_at b m p (first + k) ∷ [])
@@ -37,11 +35,11 @@ taken_more : (gas : ℕ) (ls : List Decoded) (d : Decoded) → taken gas (ls ++ 
 unfolding taken sum
 taken_more gas ls d = ap sum (map-append (takes_from gas) ls (d ∷ [])) ∙ sum_append (map (takes_from gas) ls) (takes_from gas d ∷ []) ∙ ap (λ (n : ℕ). taken gas ls + n) (add-zero (takes_from gas d))
 
-holds_more : (ls : List Decoded) (l : Line) (s r : Sums) → SumsOf ls s → Counts s l r → SumsOf (ls ++ (Good l ∷ [])) r
+holds_more : (ls : List Decoded) (l : Line) (s r : Sums) → SumsOf ls s → Counts s l r → SumsOf (ls ++ (Some l ∷ [])) r
 holds_more ls l s r h c =
     record {
-      added = λ gas g. (c.added gas g).is ∙ rw (h.added gas g, added_more gas ls (Good l)) (sym (add-mul (added gas ls) (adds_to gas (Good l)) (scale gas)));
-      taken = c.taken.is ∙ rw (h.taken, taken_more carbon_dioxide ls (Good l)) (sym (add-mul (taken carbon_dioxide ls) (takes_from carbon_dioxide (Good l)) (scale carbon_dioxide)));
+      added = λ gas g. (c.added gas g).is ∙ rw (h.added gas g, added_more gas ls (Some l)) (sym (add-mul (added gas ls) (adds_to gas (Some l)) (scale gas)));
+      taken = c.taken.is ∙ rw (h.taken, taken_more carbon_dioxide ls (Some l)) (sym (add-mul (taken carbon_dioxide ls) (takes_from carbon_dioxide (Some l)) (scale carbon_dioxide)));
     }
 
 roomy_more : {lines : ℕ} {s r : Sums} {l : Line} → Roomy (lines + 1) s → Counts s l r → Roomy lines r
@@ -83,16 +81,16 @@ summed_none {first = first} {end = end} h =
     }
 
 -- what a good line is answered, and a bad one
-answer-good : (b : List ℕ) (m p at k : ℕ) {l : Line} → read_at b m p at ≡ Good l → verdict_from b m p at (suc k) ≡ verdict_from b m p (at + 1) k
+answer-good : (b : List ℕ) (m p at k : ℕ) {l : Line} → read_at b m p at ≡ Some l → verdict_from b m p at (suc k) ≡ verdict_from b m p (at + 1) k
 unfolding verdict_from first_refusal count_up
 answer-good b m p at k e = rw e
 
-answer-bad : (b : List ℕ) (m p at k : ℕ) → read_at b m p at ≡ Bad → verdict_from b m p at (suc k) ≡ Refuses 5 at
+answer-bad : (b : List ℕ) (m p at k : ℕ) → read_at b m p at ≡ None → verdict_from b m p at (suc k) ≡ Refuses 5 at
 unfolding verdict_from first_refusal count_up
 answer-bad b m p at k e = rw e
 
 -- one more line, which is good
-pub summed_more : {b : List ℕ} {m p first end at : ℕ} {s r : Sums} {l : Line} → Summed b m p first end s at → at < end → read_at b m p at ≡ Good l → Counts s l r
+pub summed_more : {b : List ℕ} {m p first end at : ℕ} {s r : Sums} {l : Line} → Summed b m p first end s at → at < end → read_at b m p at ≡ Some l → Counts s l r
     → Summed b m p first end r (at + 1)
 summed_more {b} {m} {p} {first} {end} {at} {s} {r} {l} h less e c =
     let k : at + 1 - first ≡ at - first + 1 = omega (arith, h.low) in
@@ -112,18 +110,19 @@ room-left : {lines : ℕ} {s : Sums} → Roomy lines s → Roomy 0 s
 room-left r = record { gases = r.gases; added = λ gas g. room_less (r.added gas g) (omega arith); taken = room_less r.taken (omega arith) }
 
 -- a line that is bad ends it, and so does the end
-reads-bad : {b : List ℕ} {m p first end at : ℕ} {s : Sums} → Summed b m p first end s at → at < end → read_at b m p at ≡ Bad
-    → Reads b m p first end (record { verdict = Refuses 5 at; sums = s })
+reads-bad : {b : List ℕ} {m p first end at : ℕ} {s : Sums} → Summed b m p first end s at → at < end → read_at b m p at ≡ None
+    → verdict_from b m p first (end - first) ≡ Refuses 5 at
 reads-bad {b} {m} {p} {end = end} {at = at} h less e =
     let n : end - at ≡ suc (end - (at + 1)) = omega arith in
-    record { verdict = sym (answer-bad b m p at (end - (at + 1)) e) ∙ rw n at h.left; held = h.held; room = room-left h.room }
+    sym (sym (answer-bad b m p at (end - (at + 1)) e) ∙ rw n at h.left)
 
-pub reads_all : {b : List ℕ} {m p first end at : ℕ} {s : Sums} → Summed b m p first end s at → end ≤ at → Reads b m p first end (record { verdict = Passes; sums = s })
+pub reads_all : {b : List ℕ} {m p first end at : ℕ} {s : Sums} → Summed b m p first end s at → end ≤ at
+    → (verdict_from b m p first (end - first) ≡ Passes) × SumsOf (read_from b m p first (end - first)) s × Roomy 0 s
 unfolding verdict_from first_refusal count_up
 reads_all {end = end} {at = at} h l =
     let e : at ≡ end = omega (arith, h.high) in
     let n : end - at ≡ 0 = omega arith in
-    record { verdict = rw n at h.left; held = rw e at h.held; room = room-left h.room }
+    (sym (rw n at h.left), rw e at h.held, room-left h.room)
 
 -- what decoding makes of the bytes at a line's place is the line read
 read_is : {b : List ℕ} {m p base first end : ℕ} {raw : RawLine} {d : Decoded} (at : ℕ) → LinesStand b m p base first end → raw ≡ line_of (drop (base + line_length * at) b) → d ≡ decoded m p raw
@@ -132,14 +131,15 @@ read_is {b} {m} {p} at h r e = sym (e ∙ ap (decoded m p) (r ∙ ap (λ (x : �
 
 -- the turns of the loop: a bad line ends it, a good one is counted
 pub reads-stop : {b : List ℕ} {m p base first end at : ℕ} {s : Sums} {raw : RawLine} {d : Decoded} → LinesStand b m p base first end → Summed b m p first end s at → at < end
-    → raw ≡ line_of (drop (base + line_length * at) b) → (d ≡ decoded m p raw) × DecodedFits d → d ≡ Bad → Reads b m p first end (record { verdict = Refuses 5 at; sums = s })
+    → raw ≡ line_of (drop (base + line_length * at) b) → (d ≡ decoded m p raw) × DecodedFits d → d ≡ None
+    → verdict_from b m p first (end - first) ≡ Refuses 5 at
 reads-stop {at = at} h s less r e z = reads-bad s less (read_is at h r e.0 ∙ z)
 
 pub summed_turn : {b : List ℕ} {m p base first end at : ℕ} {s r : Sums} {raw : RawLine} {d : Decoded} {l : Line} → LinesStand b m p base first end → Summed b m p first end s at → at < end
-    → raw ≡ line_of (drop (base + line_length * at) b) → (d ≡ decoded m p raw) × DecodedFits d → d ≡ Good l → Counts s l r → Summed b m p first end r (at + 1)
+    → raw ≡ line_of (drop (base + line_length * at) b) → (d ≡ decoded m p raw) × DecodedFits d → d ≡ Some l → Counts s l r → Summed b m p first end r (at + 1)
 summed_turn {at = at} h s less r e z c = summed_more s less (read_is at h r e.0 ∙ z) c
 
-pub good-fits : {d : Decoded} {l : Line} → DecodedFits d → d ≡ Good l → (l.quantity ≤ most_quantity) × KindFits l.kind
+pub good-fits : {d : Decoded} {l : Line} → DecodedFits d → d ≡ Some l → (l.quantity ≤ most_quantity) × KindFits l.kind
 good-fits {d} {l} f e = subst DecodedFits e f
 
 pub roomy-one : {b : List ℕ} {m p first end at : ℕ} {s : Sums} → Summed b m p first end s at → at < end → Roomy 1 s

@@ -1,16 +1,13 @@
 -- The lines of a source, read one behind another and summed up to the first that is bad. Assumes nothing.
-use Rattle.std.specs.Prelude.{true, List, map, ◌≡◌, ℕ, ◌+◌, ◌*◌, ◌-◌, ◌≤◌, ◌<◌, length, get_or}
-use Rattle.basis.specs.declared.Verdict.{Verdict}
-use Rattle.basis.specs.declared.Verdict.TheVariants.{Passes, Refuses}
+use Rattle.std.specs.Prelude.{Result, Err, Ok, true, List, map, ◌≡◌, ℕ, ◌+◌, ◌*◌, ◌-◌, ◌≤◌, ◌<◌, length, get_or}
+use Rattle.basis.specs.declared.Refusal.{Refusal}
+use Rattle.basis.specs.Answers.{Verdict, Passes, first_refusal}
 use Rattle.basis.specs.Lists.{count_up}
-use Rattle.basis.specs.Answers.{first_refusal}
-use Rattle.meaning.specs.declared.Decoded.{Decoded}
-use Rattle.meaning.specs.Methods.{listed, decoded, refusal_of}
+use Rattle.meaning.specs.Methods.{Decoded, listed, decoded, refusal_of}
 use Rattle.meaning.specs.Masses.{gas_count, carbon_dioxide, added, taken}
 use Rattle.meaning.specs.Register.{source_count, most_lines, lines_at, line_length, line_at}
 use Rattle.mass_exact.specs.Amounts.{value, scale, nothing}
 use Rattle.mass_sums.specs.declared.Sums.{Sums}
-use Rattle.mass_sums.specs.declared.LinesRead.{LinesRead}
 use Rattle.mass_sums.specs.Sums.{Roomy}
 
 -- line j of a register, read by a method and parameter; so many lines from one on
@@ -23,11 +20,6 @@ read_from b m p first count = map (read_at b m p) (count_up first count)
 -- what so many lines from one on are answered: the refusal of the first that is bad
 unfoldable pub verdict_from : List ℕ → ℕ → ℕ → ℕ → ℕ → Verdict
 verdict_from b m p first count = first_refusal (map (λ j. refusal_of (read_at b m p j) j) (count_up first count))
-
--- the line before which lines are summed: the one that is refused, or the end
-abbrev pub up_to : Verdict → ℕ → ℕ
-up_to Passes end = end
-up_to (Refuses number place) end = place
 
 -- the lines from `first` up to `end` stand in the register from byte `base` on, and belong to a method and parameter that are listed together
 pub record LinesStand (b : List ℕ) (m p base first end : ℕ) : Type 0 where
@@ -42,8 +34,7 @@ pub record SumsOf (ls : List Decoded) (s : Sums) : Type 0 where
   pub added : (gas : ℕ) → gas < gas_count → value (get_or s.added gas nothing) ≡ added gas ls * scale gas
   pub taken : value s.taken ≡ taken carbon_dioxide ls * scale carbon_dioxide
 
--- the lines are answered, and are summed up to the first bad one, or all of them; the sums have room to be rounded
-pub record Reads (b : List ℕ) (m p first end : ℕ) (r : LinesRead) : Type 0 where
-  pub verdict : r.verdict ≡ verdict_from b m p first (end - first)
-  pub held : SumsOf (read_from b m p first (up_to r.verdict end - first)) r.sums
-  pub room : Roomy 0 r.sums
+-- the lines are summed where each is good, and the sums have room to be rounded; else they are answered by the first that is bad
+abbrev pub Reads : List ℕ → ℕ → ℕ → ℕ → ℕ → Result Sums Refusal → Type 0
+Reads b m p first end (Ok s) = (verdict_from b m p first (end - first) ≡ Passes) × SumsOf (read_from b m p first (end - first)) s × Roomy 0 s
+Reads b m p first end (Err refusal) = verdict_from b m p first (end - first) ≡ Err refusal

@@ -8,9 +8,9 @@ ghost use Rattle.line_kind.specs.Ranges.{KindFits};
 ghost use Rattle.mass_sums.specs.Sums.{Roomy, Counts};
 ghost use Rattle.mass_sums.specs.Lines.{LinesStand, Reads};
 
-use basis::Verdict;
+use basis::Refusal;
 use mass_exact::{Amount, GASES};
-use meaning::{Decoded, Line, RawLine};
+use meaning::{Line, RawLine};
 use register_header::LINE_LENGTH;
 
 // What the lines read so far come to: what they add, by gas, and what they take from CO2.
@@ -20,13 +20,6 @@ pub struct Sums {
     pub taken: Amount,
 }
 
-// What the lines of a source are answered, and what those before the first bad one come to.
-#[derive(Clone, Copy)]
-pub struct LinesRead {
-    pub verdict: Verdict,
-    pub sums: Sums,
-}
-
 const NOTHING: Amount = Amount { high: 0, low: 0 };
 
 // A line of 20 bytes at a place: "kind (1), unit (1), code (2), A (4), B (4), quantity Q (8)"
@@ -34,12 +27,12 @@ fn line_at(register: &[u8], at: usize) -> RawLine
     requires { at + line_length ≤ length register.now }
     ensures { result ≡ line_of (drop at register.now) }
 {
-    let kind = fields::u8_at(register, at);
-    let unit = fields::u8_at(register, at + 1);
-    let code = fields::u16_at(register, at + 2);
-    let a = fields::u32_at(register, at + 4);
-    let b = fields::u32_at(register, at + 8);
-    let q = fields::u64_at(register, at + 12);
+    let kind = fields::number_at::<1>(register, at);
+    let unit = fields::number_at::<1>(register, at + 1);
+    let code = fields::number_at::<2>(register, at + 2);
+    let a = fields::number_at::<4>(register, at + 4);
+    let b = fields::number_at::<4>(register, at + 8);
+    let q = fields::number_at::<8>(register, at + 12);
     RawLine {
         kind,
         unit,
@@ -84,7 +77,7 @@ pub fn read_lines(
     base: usize,
     first: usize,
     end: usize,
-) -> LinesRead
+) -> Result<Sums, Refusal>
     requires { LinesStand register.now method parameter base first end }
     ensures { Reads register.now method parameter first end result }
 {
@@ -92,24 +85,15 @@ pub fn read_lines(
         added: [NOTHING; GASES],
         taken: NOTHING,
     };
-    let mut at = first;
-    while at < end {
+    for at in first..end {
         let raw = line_at(register, base + LINE_LENGTH * at);
-        let decoded = line_kind::decode(method, parameter, raw);
-        let Decoded::Good(line) = decoded else {
-            return LinesRead {
-                verdict: Verdict::Refuses {
-                    number: 5,
-                    place: at as u64,
-                },
-                sums,
-            };
+        let Some(line) = line_kind::decode(method, parameter, raw) else {
+            return Err(Refusal {
+                number: 5,
+                place: at as u64,
+            });
         };
         sums = with_line(sums, line);
-        at += 1;
     }
-    LinesRead {
-        verdict: Verdict::Passes,
-        sums,
-    }
+    Ok(sums)
 }

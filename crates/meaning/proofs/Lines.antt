@@ -12,25 +12,24 @@ use Rattle.basis.specs.Answers.{refuse_if, refuse_at_first, first_refusal}
 use Rattle.basis.proofs.Answers.{refuse_each}
 use Rattle.basis.proofs.ByIndex.{same-by_index}
 use Rattle.basis.proofs.Blocks.{Blocks, blocks_length, blocks_find, blocks_at}
-use Rattle.meaning.specs.declared.Decoded.{Decoded}
-use Rattle.meaning.specs.declared.Decoded.TheVariants.{Good, Bad}
-use Rattle.meaning.specs.Methods.{decoded, is_bad, refusal_of}
+use Rattle.meaning.specs.Methods.{Decoded, decoded, is_bad, refusal_of}
+use Rattle.std.specs.Prelude.{Some, None}
 use Rattle.meaning.specs.Register.{Source, source_count, line_count, line_at, source_entry, method_in, parameter_in, first_line_in, line_count_in, source_at, sources_of, line_start, decoded_lines}
 use Rattle.meaning.specs.Calls.{line_test}
 
 -- "5 over all lines" is a test at the first line that is bad
 abbrev pub bad_line : List Decoded → ℕ → Bool
-bad_line ls j = is_bad (get_or ls j Bad)
+bad_line ls j = is_bad (get_or ls j None)
 
 refusal_if : (d : Decoded) (j : ℕ) → refuse_if (is_bad d) 5 j ≡ refusal_of d j
-refusal_if (Good l) j = refl
-refusal_if Bad j = refl
+refusal_if (Some l) j = refl
+refusal_if None j = refl
 
 pub line_test_lem : (ss : List Source) → (let ls = joined (map decoded_lines ss) in line_test ss ≡ refuse_at_first 5 (bad_line ls) (length ls))
 unfolding line_test
 line_test_lem ss =
     let ls = joined (map decoded_lines ss) in
-    sym (refuse_each 5 (bad_line ls) (length ls) ∙ ap first_refusal (same-by_index _ _ (length ls) 0 (λ j l g. refusal_if (get_or ls j Bad) j)))
+    sym (refuse_each 5 (bad_line ls) (length ls) ∙ ap first_refusal (same-by_index _ _ (length ls) 0 (λ j l g. refusal_if (get_or ls j None) j)))
 
 -- each source's lines begin where those before it ended, and the last ends at m
 pub record Following (b : List ℕ) : Type 0 where
@@ -75,13 +74,13 @@ module _ (b : List ℕ) (f : Following b) where
       ∙ f.last
 
   pub line-is : (i j : ℕ) → i < source_count b → first_line_in (source_entry b i) ≤ j → j < first_line_in (source_entry b i) + line_count_in (source_entry b i)
-      → get_or (all_lines b) j Bad ≡ read_as b i j
+      → get_or (all_lines b) j None ≡ read_as b i j
   unfolding line_start
   line-is i j m p q =
       let e = f.each i m in
-      ap (λ (xs : List Decoded). get_or xs j Bad) lines_are
-      ∙ ap (λ (x : ℕ). get_or (joined (map (λ i. decoded_lines (source_at b i)) (count_up 0 (source_count b)))) x Bad) (sym (sub-zero j))
-      ∙ blocks_at (λ i. decoded_lines (source_at b i)) (line_start b) (λ i. line_count_in (source_entry b i)) (read_as b) Bad (source_count b) 0 i j line_blocks
+      ap (λ (xs : List Decoded). get_or xs j None) lines_are
+      ∙ ap (λ (x : ℕ). get_or (joined (map (λ i. decoded_lines (source_at b i)) (count_up 0 (source_count b)))) x None) (sym (sub-zero j))
+      ∙ blocks_at (λ i. decoded_lines (source_at b i)) (line_start b) (λ i. line_count_in (source_entry b i)) (read_as b) None (source_count b) 0 i j line_blocks
       (omega arith) (omega arith) (omega arith) (omega arith)
 
   pub line_of : (j : ℕ) → j < line_count b

@@ -9,8 +9,8 @@ use borrow.Author.Tests.{ne_eqb}
 use Rattle.basis.specs.Lists.{sum}
 use Rattle.meaning.specs.declared.Kind.{Kind}
 use Rattle.meaning.specs.declared.Kind.TheVariants.{Fuel, FlareCarbon, FlareMethane, MetalIn, MetalOut, OpeningStock, ClosingStock, Feed, Product, ByProduct, CarbonateCharged, KilnDust, OtherCarbon, NitricAcid}
-use Rattle.meaning.specs.declared.Decoded.{Decoded}
-use Rattle.meaning.specs.declared.Decoded.TheVariants.{Good, Bad}
+use Rattle.meaning.specs.Methods.{Decoded}
+use Rattle.std.specs.Prelude.{Some, None}
 use Rattle.meaning.specs.Masses.{contribution, takes_from, taken}
 
 none-taken : (c : Bool) → ◌≡◌ {A = ℕ} (cond c 0 0) 0
@@ -41,8 +41,8 @@ kind-takes gas q (OtherCarbon c) = none-taken (eqb 0 (suc gas))
 kind-takes gas q (NitricAcid f) = none-taken (eqb 2 (suc gas))
 
 line-takes : (gas : ℕ) (d : Decoded) → takes_from (suc gas) d ≡ 0
-line-takes gas (Good l) = kind-takes gas l.quantity l.kind
-line-takes gas Bad = none-taken (eqb 0 (suc gas))
+line-takes gas (Some l) = kind-takes gas l.quantity l.kind
+line-takes gas None = none-taken (eqb 0 (suc gas))
 
 pub only-co2 : (gas : ℕ) (ls : List Decoded) → taken (suc gas) ls ≡ 0
 unfolding taken sum

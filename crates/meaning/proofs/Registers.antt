@@ -6,9 +6,8 @@ use Prim.Native.Nat.{ℕ, ◌≤◌, ◌<◌}
 use lib.Dec.{eqb}
 use lib.ListN.{length}
 use borrow.Author.Tests.{ltb-false, leb-true, eqb-true, not-false}
-use Rattle.basis.specs.declared.Verdict.TheVariants.{Passes}
+use Rattle.basis.specs.Answers.{Passes, refuse_if, first_refusal}
 use Rattle.basis.specs.Bytes.{number_at, starts_with}
-use Rattle.basis.specs.Answers.{refuse_if, first_refusal}
 use Rattle.basis.proofs.Answers.{each-passes, passed_append, passed_if, passed-at-all}
 use Rattle.basis.proofs.Bools.{and-true, or_false}
 use Rattle.meaning.specs.Register.{register_tag, register_layout, year_of, source_count, most_sources, line_count, most_lines, name_bytes, most_name_bytes, sources_at, lines_at, names_at, whole_length, length_test, header_tests, sources_of, line_start, name_start, wrong_source, source_test, rest_test, repeat_test, register_tests}

@@ -1,15 +1,12 @@
 -- Documents 01, "Refusal numbers", and 02: each call as its tests in order, and what it leaves where it accepts. Assumes nothing.
-use Rattle.std.specs.Prelude.{Bool, cond, not, ◌&&◌, List, [], ◌∷◌, ◌++◌, map, ℕ, ◌+◌, eqb, ltb, length, get_or}
+use Rattle.std.specs.Prelude.{Bool, cond, not, ◌&&◌, List, [], ◌∷◌, ◌++◌, map, ℕ, ◌+◌, eqb, ltb, length, get_or, None}
 use Rattle.basis.specs.declared.Answer.{Answer}
-use Rattle.basis.specs.declared.Verdict.{Verdict}
+use Rattle.basis.specs.Answers.{Verdict, refuse_if, first_refusal, passes, answer, Outcome, settled}
 use Rattle.basis.specs.Lists.{count_up, any, stands, joined, without}
 use Rattle.basis.specs.First.{first}
-use Rattle.basis.specs.Answers.{refuse_if, first_refusal, passes, answer, Outcome, settled}
-use Rattle.meaning.specs.declared.Decoded.{Decoded}
-use Rattle.meaning.specs.declared.Decoded.TheVariants.{Bad}
+use Rattle.meaning.specs.Methods.{Decoded, refusal_of}
 use Rattle.meaning.specs.declared.Part.{Part}
 use Rattle.meaning.specs.declared.Found.{Found}
-use Rattle.meaning.specs.Methods.{refusal_of}
 use Rattle.meaning.specs.Masses.{below_zero, masses, equivalent, limit}
 use Rattle.meaning.specs.Register.{Source, year_of, source_count, most_sources, sources_of, register_tests, decoded_lines, source_entry, number_in, name_length_in, name_place}
 use Rattle.meaning.specs.Report.{Entry, entry_of, in_order, report_bytes, report_year, entries_of, entry_count, well_formed}
@@ -28,7 +25,7 @@ written tests made buffer = settled (first_refusal (tests ++ (room_test made buf
 unfoldable pub line_test : List Source → Verdict
 line_test ss =
     let ls = joined (map decoded_lines ss) in
-    first_refusal (map (λ j. refusal_of (get_or ls j Bad) j) (count_up 0 (length ls)))
+    first_refusal (map (λ j. refusal_of (get_or ls j None) j) (count_up 0 (length ls)))
 
 -- what a source is refused for: "6 | CO2 sum below zero"; "7 | equivalent above 10^15"; 0 where it is not
 unfoldable pub fault_of : List Decoded → ℕ

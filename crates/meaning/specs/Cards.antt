@@ -1,9 +1,8 @@
 -- Document 02, "Amounts from stock cards": the entries of a card, the amount that they come to, and the tests of cards. Assumes nothing.
 use Rattle.std.specs.Prelude.{Bool, not, ◌||◌, List, [], ◌∷◌, map, ℕ, ◌+◌, ◌*◌, ◌-◌, ◌/◌, ◌%◌, ◌^◌, eqb, ltb, length, replicate}
-use Rattle.basis.specs.declared.Verdict.{Verdict}
+use Rattle.basis.specs.Answers.{Verdict, refuse_if, refuse_at_first}
 use Rattle.basis.specs.Bytes.{number_at, packed}
 use Rattle.basis.specs.Lists.{count_up}
-use Rattle.basis.specs.Answers.{refuse_if, refuse_at_first}
 use Rattle.meaning.specs.Methods.{most_quantity}
 
 -- "cards of four entries": "Entries are 8-byte numbers in that order"

@@ -1,11 +1,9 @@
 -- Document 01, "Methods and their lines" and "Rounding and equivalence": a source's masses. Assumes nothing.
-use Rattle.std.specs.Prelude.{Bool, cond, List, [], ◌∷◌, map, ℕ, ◌+◌, ◌*◌, ◌-◌, ◌/◌, ◌^◌, eqb, ltb, length, get_or}
+use Rattle.std.specs.Prelude.{Bool, cond, List, [], ◌∷◌, map, ℕ, ◌+◌, ◌*◌, ◌-◌, ◌/◌, ◌^◌, eqb, ltb, length, get_or, Some, None}
 use Rattle.basis.specs.Lists.{sum, count_up}
 use Rattle.meaning.specs.declared.Kind.{Kind}
 use Rattle.meaning.specs.declared.Kind.TheVariants.{Fuel, FlareCarbon, FlareMethane, MetalIn, MetalOut, OpeningStock, ClosingStock, Feed, Product, ByProduct, CarbonateCharged, KilnDust, OtherCarbon, NitricAcid}
-use Rattle.meaning.specs.declared.Decoded.{Decoded}
-use Rattle.meaning.specs.declared.Decoded.TheVariants.{Good, Bad}
-use Rattle.meaning.specs.Methods.{whole}
+use Rattle.meaning.specs.Methods.{Decoded, whole}
 
 -- "CO2 1, CH4 25, N2O 298": the gases in the report's order, each by its warming potential
 abbrev pub warming : List ℕ
@@ -72,8 +70,8 @@ contribution q (NitricAcid factor) = adding nitrous_oxide (q * factor)
 
 -- a bad line has no sum: it is refused before sums are taken
 abbrev pub contribution_of : Decoded → Contribution
-contribution_of (Good l) = contribution l.quantity l.kind
-contribution_of Bad = adding carbon_dioxide 0
+contribution_of (Some l) = contribution l.quantity l.kind
+contribution_of None = adding carbon_dioxide 0
 
 -- what a line adds to a gas, and what it takes from it
 abbrev pub adds_to : ℕ → Decoded → ℕ

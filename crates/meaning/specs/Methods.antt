@@ -1,12 +1,10 @@
 -- Document 01, "Methods and their lines": which lines a method has, and what each is read to. Assumes nothing.
-use Rattle.std.specs.Prelude.{Bool, true, false, cond, ◌&&◌, ◌||◌, List, [], ◌∷◌, ℕ, eqb, leb, get_or}
-use Rattle.basis.specs.declared.Verdict.{Verdict}
-use Rattle.basis.specs.declared.Verdict.TheVariants.{Passes, Refuses}
+use Rattle.std.specs.Prelude.{Option, Bool, true, false, cond, ◌&&◌, ◌||◌, List, [], ◌∷◌, ℕ, eqb, leb, get_or, Some, None}
+use Rattle.basis.specs.Answers.{Verdict, Passes, Refuses}
 use Rattle.meaning.specs.declared.RawLine.{RawLine}
+use Rattle.meaning.specs.declared.Line.{Line}
 use Rattle.meaning.specs.declared.Kind.{Kind}
 use Rattle.meaning.specs.declared.Kind.TheVariants.{Fuel, FlareCarbon, FlareMethane, MetalIn, MetalOut, OpeningStock, ClosingStock, Feed, Product, ByProduct, CarbonateCharged, KilnDust, OtherCarbon, NitricAcid}
-use Rattle.meaning.specs.declared.Decoded.{Decoded}
-use Rattle.meaning.specs.declared.Decoded.TheVariants.{Good, Bad}
 
 abbrev pub within : ℕ → ℕ → ℕ → Bool
 within low high n = leb low n && leb n high
@@ -78,9 +76,13 @@ figures_of (KilnDust share factor calcined) = figured 5 21 share calcined
 figures_of (OtherCarbon carbon) = figured 5 22 carbon whole
 figures_of (NitricAcid factor) = figured 6 30 0 0
 
+-- what decoding a line yields: the line, or nothing where it is bad
+abbrev pub Decoded : Type 0
+Decoded = Option Line
+
 -- a line of the kind where the test holds, and else what follows
 abbrev pub given : Bool → RawLine → Kind → Decoded → Decoded
-given true l kind other = Good (record { quantity = l.q; kind = kind })
+given true l kind other = Some (record { quantity = l.q; kind = kind })
 given false l kind other = other
 
 abbrev pub is_kind : ℕ → RawLine → Bool
@@ -107,14 +109,14 @@ b_whole l = eqb l.b whole
 
 -- "1 fuel": "1, any unit; code 1 gas, 2 liquid, 3 solid; B oxidation, 10,000 for gas and liquid"
 abbrev pub fuel : RawLine → Decoded
-fuel l = given (is_kind 1 l && any_unit l && (coded 3 l || code_from 1 2 l && b_whole l)) l (Fuel (content_of l) l.b) Bad
+fuel l = given (is_kind 1 l && any_unit l && (coded 3 l || code_from 1 2 l && b_whole l)) l (Fuel (content_of l) l.b) None
 
 -- "2 flare": "1, units 1 and 2, code 0, B share unburned"; "kind 2, unburned methane: units 1 and 2, code 0, A tonnes of CH4 per unit, B share
 -- unburned". Source 001 prints formula 8 with a plus where its product is meant.
 abbrev pub flare : RawLine → Decoded
 flare l =
     given (is_kind 1 l && gas_unit l && coded 0 l) l (FlareCarbon (content_of l) l.b)
-    (given (is_kind 2 l && gas_unit l && coded 0 l) l (FlareMethane l.a l.b) Bad)
+    (given (is_kind 2 l && gas_unit l && coded 0 l) l (FlareMethane l.a l.b) None)
 
 -- what the carbon balances of methods 3 and 4 ask of each line: "any unit, code 0, B 10,000"
 abbrev pub balanced : RawLine → Bool
@@ -126,7 +128,7 @@ metals l =
     given (is_kind 10 l && balanced l) l (MetalIn (content_of l))
     (given (is_kind 11 l && balanced l) l (MetalOut (content_of l))
     (given (is_kind 12 l && balanced l) l (OpeningStock (content_of l))
-    (given (is_kind 13 l && balanced l) l (ClosingStock (content_of l)) Bad)))
+    (given (is_kind 13 l && balanced l) l (ClosingStock (content_of l)) None)))
 
 -- "4 petrochemical": "10 feed, as method 3"; "11 product, 14 by-product, likewise; 14 only with parameter 2 or 5". Source 001, formula 50, whose
 -- third sum prints the index of the feed's content where its own is meant.
@@ -134,7 +136,7 @@ abbrev pub petrochemical : ℕ → RawLine → Decoded
 petrochemical parameter l =
     given (is_kind 10 l && balanced l) l (Feed (content_of l))
     (given (is_kind 11 l && balanced l) l (Product (content_of l))
-    (given (is_kind 14 l && balanced l && (eqb parameter 2 || eqb parameter 5)) l (ByProduct (content_of l)) Bad))
+    (given (is_kind 14 l && balanced l && (eqb parameter 2 || eqb parameter 5)) l (ByProduct (content_of l)) None))
 
 -- "5 cement": "20 carbonate charged, unit 1, code 1 to 4, B calcined share"; "21 kiln dust not returned, likewise"; "22 carbon other than fuel,
 -- unit 1, code 0, B 10,000". Source 001, formula 42, whose bracket after the dust is missing: the last sum adds.
@@ -142,11 +144,11 @@ abbrev pub cement : RawLine → Decoded
 cement l =
     given (is_kind 20 l && in_tonnes l && code_from 1 4 l) l (CarbonateCharged l.a (factor_of carbonates l.code) l.b)
     (given (is_kind 21 l && in_tonnes l && code_from 1 4 l) l (KilnDust l.a (factor_of carbonates l.code) l.b)
-    (given (is_kind 22 l && in_tonnes l && coded 0 l && b_whole l) l (OtherCarbon (content_of l)) Bad))
+    (given (is_kind 22 l && in_tonnes l && coded 0 l && b_whole l) l (OtherCarbon (content_of l)) None))
 
 -- "Method 6 is nitric acid: kind 30, unit 1, code 0, A 0, B 0, parameter 1 to 6". Table 8 prints NiO for N2O.
 abbrev pub nitric_acid : ℕ → RawLine → Decoded
-nitric_acid parameter l = given (is_kind 30 l && in_tonnes l && coded 0 l && eqb l.a 0 && eqb l.b 0) l (NitricAcid (factor_of acids parameter)) Bad
+nitric_acid parameter l = given (is_kind 30 l && in_tonnes l && coded 0 l && eqb l.a 0 && eqb l.b 0) l (NitricAcid (factor_of acids parameter)) None
 
 -- "A line that is not one of its method's kinds is refused"
 unfoldable pub by_method : ℕ → ℕ → RawLine → Decoded
@@ -156,17 +158,17 @@ by_method method parameter l =
     (cond (eqb method 3) (metals l)
     (cond (eqb method 4) (petrochemical parameter l)
     (cond (eqb method 5) (cement l)
-    (cond (eqb method 6) (nitric_acid parameter l) Bad)))))
+    (cond (eqb method 6) (nitric_acid parameter l) None)))))
 
 -- a raw line of a method and parameter, read to its kind, or bad; a pair that is not listed has no lines
 unfoldable pub decoded : ℕ → ℕ → RawLine → Decoded
-decoded method parameter l = cond (listed method parameter && in_range l) (by_method method parameter l) Bad
+decoded method parameter l = cond (listed method parameter && in_range l) (by_method method parameter l) None
 
 abbrev pub is_bad : Decoded → Bool
-is_bad (Good l) = false
-is_bad Bad = true
+is_bad (Some l) = false
+is_bad None = true
 
 -- what decoding yields, as this paper answers it of line j: a good line passes, a bad one is refusal 5 at its place
 abbrev pub refusal_of : Decoded → ℕ → Verdict
-refusal_of (Good l) j = Passes
-refusal_of Bad j = Refuses 5 j
+refusal_of (Some l) j = Passes
+refusal_of None j = Refuses 5 j

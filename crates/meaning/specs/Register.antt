@@ -1,12 +1,10 @@
 -- Document 01, "The register": its header, its sources, its lines, its names. Assumes nothing.
 use Rattle.std.specs.Prelude.{Bool, not, ◌||◌, List, [], ◌∷◌, ◌++◌, map, ℕ, zero, suc, ◌+◌, ◌*◌, eqb, ltb, length, get_or, take, drop}
-use Rattle.basis.specs.declared.Verdict.{Verdict}
+use Rattle.basis.specs.Answers.{Verdict, refuse_if, refuse_at_first}
 use Rattle.basis.specs.Bytes.{number_at, packed, ascii, starts_with}
 use Rattle.basis.specs.Lists.{count_up, any, stands, joined}
-use Rattle.basis.specs.Answers.{refuse_if, refuse_at_first}
 use Rattle.meaning.specs.declared.RawLine.{RawLine}
-use Rattle.meaning.specs.declared.Decoded.{Decoded}
-use Rattle.meaning.specs.Methods.{within, listed, decoded}
+use Rattle.meaning.specs.Methods.{Decoded, within, listed, decoded}
 
 -- a source: "a source is its register number", with its method, its parameter, its name and its lines as they are stated
 pub record Source : Type 0 where

@@ -74,13 +74,6 @@ pub enum Kind {
     },
 }
 
-// What decoding a line yields.
-#[derive(Clone, Copy)]
-pub enum Decoded {
-    Good(Line),
-    Bad,
-}
-
 // A part of a register: where it begins, and how long it is.
 #[repr(C)]
 #[derive(Clone, Copy)]
@@ -89,7 +82,7 @@ pub struct Part {
     pub length: u64,
 }
 
-// A part of one of two registers: 1 is the plant's, 2 its contractor's.
+// A part of one of two registers: 1 is the plant's, 2 its contractor's, by number since C is handed it.
 #[repr(C)]
 #[derive(Clone, Copy)]
 pub struct Found {

@@ -1,4 +1,5 @@
 -- A register that tests 1 to 4 accept, from all of them at once or from 1 to 3 and then 4. Assumes nothing.
+use Rattle.std.specs.Prelude.{Err}
 use mathlib.Core.Bool.{Bool, false}
 use mathlib.Core.List.{List, []}
 use mathlib.Core.Logic.{◌≢◌}
@@ -6,9 +7,8 @@ use mathlib.Core.Path.{◌≡◌, refl, sym, ap, ◌∙◌}
 use Prim.Native.Nat.{ℕ, ◌<◌}
 use native.Mathlib.Omega.{arith}
 use lib.ListN.{length, get_or}
-use Rattle.basis.specs.declared.Verdict.{Verdict}
-use Rattle.basis.specs.declared.Verdict.TheVariants.{Passes, Refuses}
-use Rattle.basis.specs.Answers.{first_refusal, passes}
+use Rattle.basis.specs.Answers.{Verdict, Passes, first_refusal, passes}
+use Rattle.basis.proofs.Answers.{refused-is}
 use Rattle.basis.proofs.Bools.{or_false}
 use Rattle.hash_repeats.specs.Repeats.{Nonzero}
 use Rattle.meaning.specs.Register.{source_count, source_entry, number_in, source_at, misplaced, unsound, wrong_source, sources_of, repeat_test}
@@ -26,8 +26,8 @@ accepted-is t e = e ∙ ap passes t.verdict
 
 -- the same from tests 1 to 3 and whether test 4 passes
 module _ (b : List ℕ) {v : Verdict} (e : v ≡ first_refusal (layout_tests b)) where
-  pub accepts_none : {n p : ℕ} → v ≡ Refuses n p → false ≡ accepted b
-  accepts_none f = accepted-is (layout-refused b e {keys = []} f) (rw f)
+  pub accepts_none : passes v ≡ false → false ≡ accepted b
+  accepts_none f = let r = refused-is v f in accepted-is (layout-refused b e {keys = []} {w = Err r.0} r.1 refl) refl
 
   -- test 3 refuses a source whose number is 0
   pub layout_nonzero : v ≡ Passes → Nonzero (numbers_of b)

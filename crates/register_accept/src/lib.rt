@@ -7,8 +7,7 @@ ghost use Rattle.std.specs.Prelude.{◌≡◌, ◌≤◌};
 ghost use Rattle.meaning.specs.Calls.{accepted};
 ghost use Rattle.register_order.specs.Keys.{keys_for};
 
-use basis::Verdict;
-use numbers::{is_passed, numbers_differ};
+use numbers::numbers_differ;
 use register_layout::test_layout;
 use register_order::{keys_for, test_register};
 
@@ -21,17 +20,13 @@ fn accepts_few(register: &[u8]) -> bool
 {
     let mut keys = [0u64; SMALL_ROOM];
     let mut spare = [0u64; SMALL_ROOM];
-    is_passed(test_register(register, &mut keys, &mut spare))
+    test_register(register, &mut keys, &mut spare).is_ok()
 }
 
 fn accepts_many(register: &[u8]) -> bool
     ensures { result ≡ accepted register.now }
 {
-    let layout = test_layout(register);
-    let Verdict::Passes = layout else {
-        return false;
-    };
-    numbers_differ(register)
+    test_layout(register).is_ok() && numbers_differ(register)
 }
 
 // Whether tests 1 to 4 accept a register. A few sources are sorted, and do not pay for clearing a hash table: among four, a lookup by the table takes

@@ -6,23 +6,10 @@ ghost use Rattle.hash_repeats.specs.Repeats.{Nonzero, Empty};
 ghost use Rattle.register_header.specs.Header.{Headed};
 ghost use Rattle.register_accept.specs.Numbers.{numbers_of, Tells};
 
-use basis::Verdict;
 use hash_repeats::{SLOTS, Standing};
 use register_header::{MOST_SOURCES, source_count};
 use register_layout::source_number;
 use register_order::test_numbers;
-
-pub fn is_passed(verdict: Verdict) -> bool
-    ensures { result ≡ passes verdict }
-{
-    match verdict {
-        Verdict::Passes => true,
-        Verdict::Refuses {
-            number: _,
-            place: _,
-        } => false,
-    }
-}
 
 // Each number in turn is inserted into slots that are free, up to the first that tells.
 fn standing_in(register: &[u8], slots: &mut [u32]) -> Standing
@@ -30,11 +17,10 @@ fn standing_in(register: &[u8], slots: &mut [u32]) -> Standing
     ensures { Tells result (passes (repeat_test (sources_of register.now))) }
 {
     let n = source_count(register);
-    let mut i: usize = 0;
-    while i < n {
+    for i in 0..n {
         let number = source_number(register, i) as u32;
         match hash_repeats::insert(slots, number) {
-            Standing::Once => i += 1,
+            Standing::Once => {}
             Standing::Twice => return Standing::Twice,
             Standing::Open => return Standing::Open,
         }
@@ -58,7 +44,7 @@ fn differ_sorted(register: &[u8]) -> bool
 {
     let mut keys = [0u64; MOST_SOURCES];
     let mut spare = [0u64; MOST_SOURCES];
-    is_passed(test_numbers(register, &mut keys, &mut spare))
+    test_numbers(register, &mut keys, &mut spare).is_ok()
 }
 
 // Whether test 4 passes, for whoever has no use for the order of the sources: keys are sorted only where it is open without them.

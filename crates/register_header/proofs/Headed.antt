@@ -3,8 +3,7 @@ use mathlib.Core.List.{List}
 use mathlib.Core.Path.{◌≡◌}
 use Prim.Native.Nat.{ℕ, ◌<◌}
 use native.Mathlib.Omega.{arith}
-use Rattle.basis.specs.declared.Verdict.TheVariants.{Passes}
-use Rattle.basis.specs.Answers.{first_refusal}
+use Rattle.basis.specs.Answers.{Passes, first_refusal}
 use Rattle.meaning.specs.Register.{source_count, header_tests}
 use Rattle.meaning.proofs.Registers.{right_header}
 use Rattle.register_header.specs.Header.{Headed, HasEntry}

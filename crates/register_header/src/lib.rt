@@ -2,14 +2,13 @@
 #![tactic(auto)]
 
 ghost use Rattle.std.specs.Prelude.{◌≡◌, ◌≤◌, length, drop};
-ghost use Rattle.basis.specs.declared.Verdict.TheVariants.{Refuses};
-ghost use Rattle.basis.specs.Answers.{first_refusal};
+ghost use Rattle.basis.specs.Answers.{refuse_if, first_refusal};
 ghost use Rattle.basis.specs.Bytes.{starts_with};
 ghost use Rattle.meaning.specs.Register.{register_tag, sources_at, year_of, source_count, line_count, name_bytes, lines_at, names_at, header_tests};
 ghost use Rattle.register_header.specs.Header.{CountsRead, Headed};
 
 use answer::refuse_if;
-use basis::Verdict;
+use basis::Refusal;
 
 // "layout | 1"
 const LAYOUT: u64 = 1;
@@ -59,28 +58,28 @@ pub fn register_year(register: &[u8]) -> u64
     requires { sources_at ≤ length register.now }
     ensures { result ≡ year_of register.now }
 {
-    fields::u16_at(register, YEAR_AT)
+    fields::number_at::<2>(register, YEAR_AT)
 }
 
 pub fn source_count(register: &[u8]) -> usize
     requires { sources_at ≤ length register.now }
     ensures { result ≡ source_count register.now }
 {
-    fields::u16_at(register, SOURCE_COUNT_AT) as usize
+    fields::number_at::<2>(register, SOURCE_COUNT_AT) as usize
 }
 
 pub fn line_count(register: &[u8]) -> usize
     requires { sources_at ≤ length register.now }
     ensures { result ≡ line_count register.now }
 {
-    fields::u16_at(register, LINE_COUNT_AT) as usize
+    fields::number_at::<2>(register, LINE_COUNT_AT) as usize
 }
 
 pub fn name_byte_count(register: &[u8]) -> usize
     requires { sources_at ≤ length register.now }
     ensures { result ≡ name_bytes register.now }
 {
-    fields::u32_at(register, NAME_BYTE_COUNT_AT) as usize
+    fields::number_at::<4>(register, NAME_BYTE_COUNT_AT) as usize
 }
 
 // Where the lines begin, behind the sources, and the names, behind the lines.
@@ -107,79 +106,55 @@ pub fn is_tagged(bytes: &[u8]) -> bool
 }
 
 // "2 | a header field is wrong | its first byte"
-fn wrong_at(place: usize) -> Verdict
-    ensures { result ≡ Refuses 2 place }
+fn test_field(wrong: bool, place: usize) -> Result<(), Refusal>
+    ensures { result ≡ refuse_if wrong 2 place }
 {
-    Verdict::Refuses {
-        number: 2,
-        place: place as u64,
-    }
+    refuse_if(wrong, 2, place as u64)
 }
 
 // The offsets and the whole length, which go by n sources, m lines and t name bytes. Each field is read once those before it are right.
-fn test_offsets(register: &[u8], n: usize, m: usize, t: usize) -> Verdict
+fn test_offsets(register: &[u8], n: usize, m: usize, t: usize) -> Result<(), Refusal>
     requires { CountsRead register.now n m t }
     ensures { result ≡ first_refusal (drop 6 (header_tests register.now)) }
 {
     let lines = SOURCES_AT + SOURCE_LENGTH * n;
     let names = lines + LINE_LENGTH * m;
     let whole = names + t;
-    let sources_wrong = fields::u32_at(register, SOURCES_OFFSET_AT) as usize != SOURCES_AT;
-    if sources_wrong {
-        return wrong_at(SOURCES_OFFSET_AT);
-    }
-    let lines_wrong = fields::u32_at(register, LINES_OFFSET_AT) as usize != lines;
-    if lines_wrong {
-        return wrong_at(LINES_OFFSET_AT);
-    }
-    let names_wrong = fields::u32_at(register, NAMES_OFFSET_AT) as usize != names;
-    if names_wrong {
-        return wrong_at(NAMES_OFFSET_AT);
-    }
-    let stated = fields::u32_at(register, WHOLE_LENGTH_AT) as usize;
-    let length_wrong = (stated != whole) | (register.len() != whole);
-    refuse_if(length_wrong, 2, WHOLE_LENGTH_AT as u64)
+    let sources_stated = fields::number_at::<4>(register, SOURCES_OFFSET_AT) as usize;
+    test_field(sources_stated != SOURCES_AT, SOURCES_OFFSET_AT)?;
+    let lines_stated = fields::number_at::<4>(register, LINES_OFFSET_AT) as usize;
+    test_field(lines_stated != lines, LINES_OFFSET_AT)?;
+    let names_stated = fields::number_at::<4>(register, NAMES_OFFSET_AT) as usize;
+    test_field(names_stated != names, NAMES_OFFSET_AT)?;
+    let stated = fields::number_at::<4>(register, WHOLE_LENGTH_AT) as usize;
+    test_field(
+        (stated != whole) | (register.len() != whole),
+        WHOLE_LENGTH_AT,
+    )
 }
 
-fn test_counts(register: &[u8]) -> Verdict
+fn test_counts(register: &[u8]) -> Result<(), Refusal>
     requires { sources_at ≤ length register.now }
     ensures { result ≡ first_refusal (drop 3 (header_tests register.now)) }
 {
     let n = source_count(register);
-    let sources_wrong = MOST_SOURCES < n;
-    if sources_wrong {
-        return wrong_at(SOURCE_COUNT_AT);
-    }
+    test_field(MOST_SOURCES < n, SOURCE_COUNT_AT)?;
     let m = line_count(register);
-    let lines_wrong = MOST_LINES < m;
-    if lines_wrong {
-        return wrong_at(LINE_COUNT_AT);
-    }
+    test_field(MOST_LINES < m, LINE_COUNT_AT)?;
     let t = name_byte_count(register);
-    let names_wrong = MOST_NAME_BYTES < t;
-    if names_wrong {
-        return wrong_at(NAME_BYTE_COUNT_AT);
-    }
+    test_field(MOST_NAME_BYTES < t, NAME_BYTE_COUNT_AT)?;
     test_offsets(register, n, m, t)
 }
 
 // "2 by field"
-pub fn test_header(register: &[u8]) -> Verdict
+pub fn test_header(register: &[u8]) -> Result<(), Refusal>
     requires { sources_at ≤ length register.now }
     ensures { result ≡ first_refusal (header_tests register.now) }
 {
-    let untagged = !is_tagged(register);
-    if untagged {
-        return wrong_at(TAG_AT);
-    }
-    let layout_wrong = fields::u16_at(register, LAYOUT_AT) != LAYOUT;
-    if layout_wrong {
-        return wrong_at(LAYOUT_AT);
-    }
+    test_field(!is_tagged(register), TAG_AT)?;
+    let layout = fields::number_at::<2>(register, LAYOUT_AT);
+    test_field(layout != LAYOUT, LAYOUT_AT)?;
     let year = register_year(register);
-    let year_wrong = !((1990 <= year) & (year <= 2100));
-    if year_wrong {
-        return wrong_at(YEAR_AT);
-    }
+    test_field(!((1990 <= year) & (year <= 2100)), YEAR_AT)?;
     test_counts(register)
 }

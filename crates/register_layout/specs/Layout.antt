@@ -1,6 +1,6 @@
 -- How a register is laid out: its tests 1 to 3, and what is known of an entry once the header has passed. Assumes nothing.
 use Rattle.std.specs.Prelude.{List, [], ◌∷◌, ◌++◌, ◌≡◌, ℕ, ◌+◌, ◌≤◌, length, drop}
-use Rattle.basis.specs.declared.Verdict.{Verdict}
+use Rattle.basis.specs.Answers.{Verdict}
 use Rattle.meaning.specs.Register.{source_count, line_count, names_at, length_test, header_tests, source_test, rest_test, source_entry, name_length_in, name_place, line_start, name_start}
 use Rattle.register_header.specs.Header.{HasEntry}
 

@@ -8,7 +8,8 @@ ghost use Rattle.std.specs.Prelude.{◌≡◌};
 ghost use Rattle.basis.specs.Answers.{first_refusal};
 ghost use Rattle.register_layout.specs.Layout.{layout_tests};
 
-use basis::Verdict;
+use answer::refuse_if;
+use basis::Refusal;
 pub use entry::{
     source_line_count, source_method, source_name_length, source_number, source_parameter,
 };
@@ -17,18 +18,10 @@ use sources::test_sources;
 pub use sources::{part, place_of_name};
 
 // Tests 1 to 3.
-pub fn test_layout(register: &[u8]) -> Verdict
+pub fn test_layout(register: &[u8]) -> Result<(), Refusal>
     ensures { result ≡ first_refusal (layout_tests register.now) }
 {
-    if register.len() < SOURCES_AT {
-        return Verdict::Refuses {
-            number: 1,
-            place: 0,
-        };
-    }
-    let header = test_header(register);
-    let Verdict::Passes = header else {
-        return header;
-    };
+    refuse_if(register.len() < SOURCES_AT, 1, 0)?;
+    test_header(register)?;
     test_sources(register)
 }

@@ -13,7 +13,7 @@ use crate::entry::{
     source_number, source_parameter,
 };
 use answer::refuse_if;
-use basis::Verdict;
+use basis::Refusal;
 use register_header::{line_count, name_byte_count, names_at, source_count};
 
 // Where the lines of entry i end, and those of the next begin.
@@ -72,12 +72,8 @@ fn has_bad_byte(name: &[u8]) -> bool
     ensures { result ≡ any bad_name_byte name.now }
 {
     let mut bad = false;
-    let mut i: usize = 0;
-    while i < name.len() {
-        let byte = name[i];
-        let wrong = (byte < 32) | (byte == 127);
-        bad = bad | wrong;
-        i += 1;
+    for &byte in name {
+        bad |= (byte < 32) | (byte == 127);
     }
     bad
 }
@@ -139,7 +135,7 @@ fn is_wrong(register: &[u8], i: usize, line: usize, byte: usize, spoiled: bool) 
 }
 
 // Test 3 over all sources, and then that no line and no name byte is left over.
-pub fn test_sources(register: &[u8]) -> Verdict
+pub fn test_sources(register: &[u8]) -> Result<(), Refusal>
     requires { Headed register.now }
     ensures { result ≡ first_refusal (source_test register.now ∷ rest_test register.now ∷ []) }
 {
@@ -149,18 +145,10 @@ pub fn test_sources(register: &[u8]) -> Verdict
     let spoiled = has_bad_names(register);
     let mut line: usize = 0;
     let mut byte: usize = 0;
-    let mut i: usize = 0;
-    while i < n {
-        let wrong = is_wrong(register, i, line, byte, spoiled);
-        if wrong {
-            return Verdict::Refuses {
-                number: 3,
-                place: i as u64,
-            };
-        }
+    for i in 0..n {
+        refuse_if(is_wrong(register, i, line, byte, spoiled), 3, i as u64)?;
         line = lines_end(register, i);
         byte = name_end(register, i);
-        i += 1;
     }
     refuse_if((line != m) | (byte != t), 3, n as u64)
 }

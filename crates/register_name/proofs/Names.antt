@@ -1,4 +1,6 @@
 -- The names: one that is found stands within its register, and which of two registers alone holds a number. Assumes nothing.
+use Rattle.std.specs.Prelude.{Option, Some, None}
+use Rattle.std.specs.Option.{option_flatten, unwrap_or}
 use mathlib.Core.Bool.{Bool, true, false, cond, not, ◌&&◌}
 use mathlib.Core.List.{List}
 use mathlib.Core.Path.{◌≡◌, refl, sym, ◌∙◌}
@@ -12,9 +14,11 @@ use Rattle.meaning.specs.declared.Part.{Part}
 use Rattle.meaning.specs.declared.Found.{Found}
 use Rattle.meaning.specs.Register.{source_count}
 use Rattle.meaning.specs.Calls.{accepted, index_of, holds, name_at, found, in_register, found_of_two}
-use Rattle.register_name.specs.declared.look.Sought.{Sought}
-use Rattle.register_name.specs.Lookups.{Seeks}
-use Rattle.register_name.proofs.look.Looking.{accepted_headed, accepted-placed, nothing}
+use Rattle.register_name.specs.Lookups.{sought}
+use Rattle.register_name.proofs.look.Looking.{accepted_headed, accepted-placed}
+
+abbrev pub nothing : Part
+nothing = record { offset = 0; length = 0 }
 
 -- a name found stands within the register
 found_within : (b : List ℕ) (number : ℕ) → (found b number).offset + (found b number).length ≤ length b
@@ -62,37 +66,42 @@ module _ (plant contractor : List ℕ) (number : ℕ) where
     pub within_contractor : eqb f.which 1 ≡ false → f.offset + f.length ≤ length contractor
     within_contractor t = rw e (inside.1 (rw e at t))
 
--- two registers looked through: which of them alone holds the number
-module _ {plant contractor : List ℕ} {number : ℕ} {s t : Sought} (p : Seeks plant number s) (q : Seeks contractor number t) where
-  abbrev both : Bool
-  both = s.accepted && t.accepted
+-- what is found, from what was sought in one register or in both
+pub found-as : (b : List ℕ) (number : ℕ) → found b number ≡ unwrap_or (option_flatten (sought b number)) nothing
+unfolding found
+found-as b number = by (accepted b) (holds b number) (name_at b (index_of b number))
+  where
+    by : (a h : Bool) (p : Part) → cond (a && h) p nothing ≡ unwrap_or (option_flatten (cond a (Some (cond h (Some p) None)) None)) nothing
+    by false h p = refl
+    by true false p = refl
+    by true true p = refl
 
-  alone : both && s.held && not t.held ≡ here plant contractor number
-  alone = rw (p.taken, q.taken, p.holding, q.holding) (by (accepted plant) (accepted contractor) (holds plant number) (holds contractor number))
-    where
-      by : (a b c d : Bool) → a && b && (a && c) && not (b && d) ≡ a && b && c && not d
-      by true true c d = refl
-      by true false c d = refl
-      by false b c d = refl
+abbrev pub name_in_either : Option (Option Part) → Option (Option Part) → Found
+name_in_either (Some (Some p)) (Some None) = in_register 1 p
+name_in_either (Some None) (Some (Some p)) = in_register 2 p
+name_in_either s t = in_register 1 nothing
 
-  other : both && not s.held && t.held ≡ there plant contractor number
-  other = rw (p.taken, q.taken, p.holding, q.holding) (by (accepted plant) (accepted contractor) (holds plant number) (holds contractor number))
-    where
-      by : (a b c d : Bool) → a && b && not (a && c) && (b && d) ≡ a && b && not c && d
-      by true true c d = refl
-      by true false c d = refl
-      by false b c d = refl
+pub found-in : (plant contractor : List ℕ) (number : ℕ) → found_of_two plant contractor number ≡ name_in_either (sought plant number) (sought contractor number)
+unfolding found_of_two found
+found-in plant contractor number =
+    by (accepted plant) (accepted contractor) (holds plant number) (holds contractor number) (name_at plant (index_of plant number)) (name_at contractor (index_of contractor number))
+  where
+    by : (a b h k : Bool) (p q : Part)
+        → cond ((a && b) && h && not k) (in_register 1 (cond (a && h) p nothing)) (cond ((a && b) && not h && k) (in_register 2 (cond (b && k) q nothing)) (in_register 1 nothing))
+        ≡ name_in_either (cond a (Some (cond h (Some p) None)) None) (cond b (Some (cond k (Some q) None)) None)
+    by false b h k p q = refl
+    by true false false k p q = refl
+    by true false true k p q = refl
+    by true true false false p q = refl
+    by true true false true p q = refl
+    by true true true false p q = refl
+    by true true true true p q = refl
 
-  pub found_here : {r : Found} → both && s.held && not t.held ≡ true → r ≡ in_register 1 s.name → r ≡ found_of_two plant contractor number
-  unfolding found_of_two
-  found_here f e = e ∙ rw (p.place, sym alone ∙ f)
+pub told-of-two : (plant contractor : List ℕ) (number : ℕ) {s t : Option (Option Part)} {r : Found} → s ≡ sought plant number → t ≡ sought contractor number → r ≡ name_in_either s t
+    → r ≡ found_of_two plant contractor number
+told-of-two plant contractor number e f g = g ∙ rw (e, f) (sym (found-in plant contractor number))
 
-  pub found-there : {r : Found} → both && s.held && not t.held ≡ false → both && not s.held && t.held ≡ true → r ≡ in_register 2 t.name
-      → r ≡ found_of_two plant contractor number
-  unfolding found_of_two
-  found-there f g e = e ∙ rw (q.place, sym alone ∙ f, sym other ∙ g)
-
-  pub found_nowhere : {r : Found} → both && s.held && not t.held ≡ false → both && not s.held && t.held ≡ false → r ≡ in_register 1 nothing
-      → r ≡ found_of_two plant contractor number
-  unfolding found_of_two
-  found_nowhere f g e = e ∙ rw (sym alone ∙ f, sym other ∙ g)
+pub none-second : (s : Option (Option Part)) → in_register 1 nothing ≡ name_in_either s None
+none-second None = refl
+none-second (Some None) = refl
+none-second (Some (Some p)) = refl

@@ -1,9 +1,12 @@
 -- What a number looked up in one register comes to. Assumes nothing.
-use Rattle.std.specs.Prelude.{◌&&◌, List, ◌≡◌, ℕ}
-use Rattle.meaning.specs.Calls.{accepted, holds, found}
-use Rattle.register_name.specs.declared.look.Sought.{Sought}
+use Rattle.std.specs.Prelude.{Option, Some, None, cond, List, ℕ}
+use Rattle.meaning.specs.declared.Part.{Part}
+use Rattle.meaning.specs.Calls.{accepted, index_of, holds, name_at}
 
-pub record Seeks (b : List ℕ) (number : ℕ) (s : Sought) : Type 0 where
-  pub taken : s.accepted ≡ accepted b
-  pub holding : s.held ≡ accepted b && holds b number
-  pub place : s.name ≡ found b number
+-- the name of the source that has the number, if one has it
+abbrev pub named : List ℕ → ℕ → Option Part
+named b number = cond (holds b number) (Some (name_at b (index_of b number))) None
+
+-- nothing where the register is refused
+abbrev pub sought : List ℕ → ℕ → Option (Option Part)
+sought b number = cond (accepted b) (Some (named b number)) None

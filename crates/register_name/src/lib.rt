@@ -25,28 +25,21 @@ fn in_register(which: u32, name: Part) -> Found
 pub fn name_place(register: &[u8], number: u32) -> Part
     ensures { result ≡ found register.now number }
 {
-    let sought = look_up(register, number);
-    sought.name
+    look_up(register, number).flatten().unwrap_or(NOWHERE)
 }
 
 // Where it stands in whichever of two registers holds the number; 1, 0 and 0 where there is none.
 pub fn name_place_of_two(plant: &[u8], contractor: &[u8], number: u32) -> Found
     ensures { result ≡ found_of_two plant.now contractor.now number }
 {
-    let here = look_up(plant, number);
-    let there = look_up(contractor, number);
-    let both = here.accepted & there.accepted;
-    let only_here = both & here.held & !there.held;
-    let only_there = both & !here.held & there.held;
-    let one = here.name;
-    let other = there.name;
-    if only_here {
-        return in_register(1, one);
+    let (Some(here), Some(there)) = (look_up(plant, number), look_up(contractor, number)) else {
+        return in_register(1, NOWHERE);
+    };
+    match (here, there) {
+        (Some(name), None) => in_register(1, name),
+        (None, Some(name)) => in_register(2, name),
+        _ => in_register(1, NOWHERE),
     }
-    if only_there {
-        return in_register(2, other);
-    }
-    in_register(1, NOWHERE)
 }
 
 // "the part of the lent register where it stands, not a copy"

@@ -1,8 +1,8 @@
 // A number looked up in one register: whether tests 1 to 4 accept it, whether it holds the number, and where the name stands.
-ghost use Rattle.std.specs.Prelude.{true, ◌≡◌};
-ghost use Rattle.meaning.specs.Calls.{accepted, index_of, name_at};
+ghost use Rattle.std.specs.Prelude.{◌≡◌};
+ghost use Rattle.meaning.specs.Calls.{name_at};
 ghost use Rattle.register_header.specs.Header.{Headed, HasEntry};
-ghost use Rattle.register_name.specs.Lookups.{Seeks};
+ghost use Rattle.register_name.specs.Lookups.{named, sought};
 
 use meaning::Part;
 use register_accept::accepts;
@@ -15,30 +15,6 @@ pub const NOWHERE: Part = Part {
     length: 0,
 };
 
-// What looking a number up in one register comes to: whether tests 1 to 4 accept it, whether it then holds the number, and the name.
-#[derive(Clone, Copy)]
-pub struct Sought {
-    pub accepted: bool,
-    pub held: bool,
-    pub name: Part,
-}
-
-fn source_index_of(register: &[u8], number: u32) -> usize
-    requires { Headed register.now }
-    ensures { result ≡ index_of register.now number }
-{
-    let n = source_count(register);
-    let mut i: usize = 0;
-    while i < n {
-        let hit = source_number(register, i) == number as u64;
-        if hit {
-            return i;
-        }
-        i += 1;
-    }
-    i
-}
-
 // The name of entry i, where it stands.
 fn name_at(register: &[u8], i: usize) -> Part
     requires { HasEntry register.now i }
@@ -49,39 +25,25 @@ fn name_at(register: &[u8], i: usize) -> Part
     Part { offset, length }
 }
 
-// A number looked up in a register that is accepted.
-fn look_in(register: &[u8], number: u32) -> Sought
-    requires { accepted register.now ≡ true }
-    ensures { Seeks register.now number result }
+// The name of the source that has a number, if one has it.
+fn name_in(register: &[u8], number: u32) -> Option<Part>
+    requires { Headed register.now }
+    ensures { result ≡ named register.now number }
 {
-    let n = source_count(register);
-    let i = source_index_of(register, number);
-    if i < n {
-        let name = name_at(register, i);
-        return Sought {
-            accepted: true,
-            held: true,
-            name,
-        };
+    for i in 0..source_count(register) {
+        if source_number(register, i) == number as u64 {
+            return Some(name_at(register, i));
+        }
     }
-    Sought {
-        accepted: true,
-        held: false,
-        name: NOWHERE,
-    }
+    None
 }
 
-// A number looked up in any register; one that is refused holds none.
-pub fn look_up(register: &[u8], number: u32) -> Sought
-    ensures { Seeks register.now number result }
+// A number looked up in any register: nothing where it is refused, and else the name, if it holds the number.
+pub fn look_up(register: &[u8], number: u32) -> Option<Option<Part>>
+    ensures { result ≡ sought register.now number }
 {
-    let accepted = accepts(register);
-    if accepted {
-        return look_in(register, number);
+    if accepts(register) {
+        return Some(name_in(register, number));
     }
-    Sought {
-        accepted: false,
-        held: false,
-        name: NOWHERE,
-    }
+    None
 }

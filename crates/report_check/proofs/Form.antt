@@ -1,16 +1,17 @@
 -- The form of a report: its header by the fields that were read, and the whole by its header and its entries. Assumes nothing.
+use Rattle.std.specs.Prelude.{Result, Ok, Err}
+use Rattle.std.specs.Result.{result_and}
 use mathlib.Core.Bool.{Bool, true, false, not, ◌&&◌}
 use mathlib.Core.List.{List}
-use mathlib.Core.Path.{◌≡◌, sym, ◌∙◌}
+use mathlib.Core.Path.{◌≡◌, refl, sym, ap, ◌∙◌}
 use Prim.Native.Nat.{ℕ, ◌≤◌, ◌<◌}
 use native.Mathlib.Omega.{arith}
 use borrow.Author.Tests.{ne_eqb, not-false}
 use lib.Dec.{eqb, leb}
 use lib.ListN.{length}
 use Rattle.basis.specs.declared.Answer.{Answer}
-use Rattle.basis.specs.declared.Verdict.{Verdict}
-use Rattle.basis.specs.declared.Verdict.TheVariants.{Passes}
-use Rattle.basis.specs.Answers.{refuse_if, answer}
+use Rattle.basis.specs.declared.Refusal.{Refusal}
+use Rattle.basis.specs.Answers.{Verdict, Passes, refuse_if, answer, answered}
 use Rattle.basis.specs.Bytes.{starts_with}
 use Rattle.basis.specs.Lists.{count_up, any}
 use Rattle.basis.proofs.Answers.{passed_if}
@@ -21,6 +22,11 @@ use Rattle.meaning.proofs.Reports.{headed, formed}
 use Rattle.fields.specs.Fields.{Field}
 use Rattle.report_read.specs.Readable.{Readable}
 use Rattle.report_check.specs.Rules.{front_right}
+
+-- what is accepted has a length, where a verdict has none
+answered-and : (v : Verdict) (n : ℕ) → answered (result_and v (Ok n)) ≡ answer v n
+answered-and (Ok done) n = refl
+answered-and (Err refusal) n = refl
 
 module _ (b : List ℕ) where
   pub front-judged : {n whole layout year : ℕ} {tagged : Bool} → (entries_at ≤ length b) × (n ≡ entry_count b) × (whole ≡ report_length n) → tagged ≡ starts_with report_tag b
@@ -65,6 +71,6 @@ module _ (b : List ℕ) where
   pub form_judged : {right : Bool} {v : Verdict} (which : ℕ) → right ≡ well_formed b → v ≡ refuse_if (not right) 9 which → v ≡ form_test b which
   form_judged which e f = rw e at f
 
-  pub report-judged : {v : Verdict} {a : Answer} → v ≡ form_test b 1 → a ≡ answer v (length b) → a ≡ checked b
+  pub report-judged : {v : Verdict} {made : Result ℕ Refusal} {a : Answer} → v ≡ form_test b 1 → made ≡ result_and v (Ok (length b)) → a ≡ answered made → a ≡ checked b
   unfolding checked
-  report-judged e f = rw e at f
+  report-judged {v} e f g = g ∙ ap answered f ∙ answered-and v (length b) ∙ ap (λ (v : Verdict). answer v (length b)) e

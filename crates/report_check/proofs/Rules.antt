@@ -1,7 +1,7 @@
 -- The rules of an entry: what is wrong with its front and with its equivalent, by what was read from it. Assumes nothing.
 use mathlib.Core.Bool.{Bool, true, false, not, ◌||◌}
 use mathlib.Core.List.{List}
-use mathlib.Core.Path.{◌≡◌, sym, ◌∙◌}
+use mathlib.Core.Path.{◌≡◌, refl, sym, ◌∙◌}
 use Prim.Native.Nat.{ℕ, zero, suc, ◌+◌, ◌*◌, ◌≤◌, ◌<◌}
 use native.Mathlib.Nat.{add_assoc, add-zero}
 use native.Mathlib.Omega.{arith}
@@ -16,10 +16,10 @@ use Rattle.meaning.specs.Masses.{gas_count, equivalent, limit}
 use Rattle.meaning.specs.Report.{entries_at, entry_length, entry_at, figure_in, entry_in, number_before, wrong_entry}
 use Rattle.fields.specs.Fields.{Field}
 use Rattle.fields.proofs.Laws.{field_behind}
-use Rattle.mass_exact.specs.declared.Weighed.{Weighed}
-use Rattle.mass_exact.specs.declared.Weighed.TheVariants.{Within, Above}
 use Rattle.mass_exact.specs.Equivalents.{within_limit}
-use Rattle.mass_exact.proofs.Equivalents.{within-exactly, above-exactly}
+use Rattle.mass_exact.proofs.Equivalents.{some-within, none-above}
+use Rattle.std.specs.Option.{option_eq}
+use Rattle.std.specs.Prelude.{Option, Some, None, nat_eq}
 use Rattle.report_read.specs.Figures.{figures_at}
 use Rattle.report_read.proofs.Entries.{figures-drop}
 use Rattle.report_check.specs.Rules.{wrong_equivalent}
@@ -28,21 +28,27 @@ pub masses_read : (b : List ℕ) (at : ℕ) {ms : List ℕ} → ms ≡ figures_a
 unfolding figures_at entry_in
 masses_read b at e = e ∙ figures-drop gas_count b at 8
 
-module _ (b : List ℕ) (at : ℕ) {ms : List ℕ} {w : Weighed} (m : ms ≡ (entry_in (drop at b)).masses) (v : w ≡ within_limit ms) where
+module _ (b : List ℕ) (at : ℕ) {ms : List ℕ} {w : Option ℕ} (m : ms ≡ (entry_in (drop at b)).masses) (v : w ≡ within_limit ms) where
   -- above the limit it is wrong, whatever is stated
-  pub wrong-above : w ≡ Above → true ≡ wrong_equivalent (drop at b)
+  wrong-above : w ≡ None → true ≡ wrong_equivalent (drop at b)
   unfolding wrong_equivalent
   wrong-above e =
-      let l : limit < equivalent ms = (above-exactly ms).0 (sym v ∙ e) in
+      let l : limit < equivalent ms = none-above ms (sym v ∙ e) in
       rw (← m, lt-ltb limit (equivalent ms) l) (sym (or_true (not (eqb (figure_in (drop at b) gas_count) (equivalent ms)))))
 
   -- within it, the stated one decides
-  pub wrong-stated : {right stated : ℕ} → w ≡ Within right → Field 8 b (at + 8 + 8 * gas_count) stated → not (eqb stated right) ≡ wrong_equivalent (drop at b)
+  wrong-stated : {right stated : ℕ} → w ≡ Some right → Field 8 b (at + 8 + 8 * gas_count) stated → not (eqb stated right) ≡ wrong_equivalent (drop at b)
   unfolding wrong_equivalent
   wrong-stated {right} {stated} e f =
-      let h = (within-exactly ms right).0 (sym v ∙ e) in
+      let h = some-within ms (sym v ∙ e) in
       let s : stated ≡ figure_in (drop at b) gas_count = (field_behind at (8 + 8 * gas_count) (rw add_assoc at f)).is in
-      rw (← m, ← s, ← h.1, le-ltb limit right (omega (arith, h.0, h.1))) (sym (or_none (not (eqb stated right))))
+      rw (← m, ← s, ← h.1, le-ltb limit right h.0) (sym (or_none (not (eqb stated right))))
+
+-- stated against what is computed
+pub wrong-differs : (b : List ℕ) (at : ℕ) {ms : List ℕ} (w : Option ℕ) {stated : ℕ} → ms ≡ (entry_in (drop at b)).masses → w ≡ within_limit ms
+    → Field 8 b (at + 8 + 8 * gas_count) stated → not (option_eq nat_eq (Some stated) w) ≡ wrong_equivalent (drop at b)
+wrong-differs b at None m v f = wrong-above b at m v refl
+wrong-differs b at (Some right) m v f = wrong-stated b at m v refl f
 
 -- a method and what stands behind it are a method only where that is zeros
 method_alone : (m z : ℕ) → not (within 1 6 (m + 256 * z)) ≡ not (within 1 6 m) || not (eqb z 0)

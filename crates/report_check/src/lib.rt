@@ -10,8 +10,8 @@ ghost use Rattle.meaning.specs.Calls.{form_test, checked};
 ghost use Rattle.fields.specs.Fields.{Field};
 ghost use Rattle.report_check.specs.Rules.{front_right, wrong_equivalent};
 
-use basis::{Answer, Verdict};
-use mass_exact::{FIGURES, GASES, Weighed};
+use basis::{Answer, Refusal};
+use mass_exact::{FIGURES, GASES};
 use report_read::{
     COUNT_AT, ENTRIES_AT, ENTRY_LENGTH, FIGURE_LENGTH, FIGURES_AT, FIRST_ZERO_AT, LAYOUT,
     LAYOUT_AT, LENGTH_AT, METHOD_AT, MOST_ENTRIES, OFFSET_AT, SECOND_ZERO_AT, TOTALS_AT, YEAR_AT,
@@ -34,12 +34,8 @@ fn is_equivalent_wrong(report: &[u8], at: usize) -> bool
     ensures { result ≡ wrong_equivalent (drop at report.now) }
 {
     let masses = masses_at(report, at);
-    let weighed = mass_exact::equivalent(masses);
-    let Weighed::Within(right) = weighed else {
-        return true;
-    };
-    let stated = fields::u64_at(report, at + FIGURES_AT + FIGURE_LENGTH * GASES);
-    stated != right
+    let stated = fields::number_at::<8>(report, at + FIGURES_AT + FIGURE_LENGTH * GASES);
+    Some(stated) != mass_exact::equivalent(masses)
 }
 
 // Whether entry i breaks a rule, where its number and the one before it are known. The method and the zeros behind it are one number, which is
@@ -49,7 +45,7 @@ fn is_entry_wrong(report: &[u8], i: usize, number: u64, before: u64) -> bool
     ensures { result ≡ wrong_entry report.now i }
 {
     let at = ENTRIES_AT + ENTRY_LENGTH * i;
-    let method_and_zeros = fields::u32_at(report, at + METHOD_AT);
+    let method_and_zeros = fields::number_at::<4>(report, at + METHOD_AT);
     let wrong = (number <= before) | !((1 <= method_and_zeros) & (method_and_zeros <= 6));
     if !wrong {
         return is_equivalent_wrong(report, at);
@@ -62,15 +58,9 @@ fn are_totals_right(report: &[u8], totals: &[u64; FIGURES]) -> bool
     requires { (entries_at ≤ length report.now) × (totals.now ≡ Report.totals (entries_of report.now)) }
     ensures { result ≡ not (any (wrong_total report.now) (count_up 0 figure_count)) }
 {
-    let mut figure: usize = 0;
-    while figure < FIGURES {
-        let wrong = fields::u64_at(report, TOTALS_AT + FIGURE_LENGTH * figure) != totals[figure];
-        if wrong {
-            return false;
-        }
-        figure += 1;
-    }
-    true
+    let mut stated = [0u64; FIGURES];
+    read_figures(report, TOTALS_AT, &mut stated);
+    stated == *totals
 }
 
 // One pass over n entries, which tests each and adds its figures to the totals.
@@ -79,18 +69,16 @@ fn are_entries_right(report: &[u8], n: usize) -> bool
     ensures { result ≡ not (any (wrong_entry report.now) (count_up 0 n)) && not (any (wrong_total report.now) (count_up 0 figure_count)) }
 {
     let mut totals = [0u64; FIGURES];
-    let mut before: u64 = 0;
-    let mut i: usize = 0;
-    while i < n {
+    let mut before = 0;
+    for i in 0..n {
         let at = ENTRIES_AT + ENTRY_LENGTH * i;
-        let number = fields::u32_at(report, at);
+        let number = fields::number_at::<4>(report, at);
         let wrong = is_entry_wrong(report, i, number, before);
         if wrong {
             return false;
         }
         add_figures(report, at + FIGURES_AT, &mut totals);
         before = number;
-        i += 1;
     }
     are_totals_right(report, &totals)
 }
@@ -101,8 +89,8 @@ fn is_front_right(report: &[u8], n: usize, whole: usize) -> bool
     ensures { result ≡ front_right report.now }
 {
     let tagged = fields::starts_with(report, b"GREP");
-    let layout = fields::u16_at(report, LAYOUT_AT);
-    let year = fields::u16_at(report, YEAR_AT);
+    let layout = fields::number_at::<2>(report, LAYOUT_AT);
+    let year = fields::number_at::<2>(report, YEAR_AT);
     (report.len() == whole)
         & tagged
         & (layout == LAYOUT)
@@ -115,13 +103,13 @@ fn is_header_right(report: &[u8]) -> bool
     requires { entries_at ≤ length report.now }
     ensures { result ≡ header_right report.now }
 {
-    let n = fields::u16_at(report, COUNT_AT) as usize;
+    let n = fields::number_at::<2>(report, COUNT_AT) as usize;
     let whole = length_of(n);
     let front = is_front_right(report, n, whole);
-    let zeros = fields::u16_at(report, FIRST_ZERO_AT);
-    let offset = fields::u32_at(report, OFFSET_AT);
-    let size = fields::u32_at(report, LENGTH_AT);
-    let zeros_after = fields::u32_at(report, SECOND_ZERO_AT);
+    let zeros = fields::number_at::<2>(report, FIRST_ZERO_AT);
+    let offset = fields::number_at::<4>(report, OFFSET_AT);
+    let size = fields::number_at::<4>(report, LENGTH_AT);
+    let zeros_after = fields::number_at::<4>(report, SECOND_ZERO_AT);
     front
         & (zeros == 0)
         & (offset == ENTRIES_AT as u64)
@@ -137,14 +125,14 @@ fn is_well_formed(report: &[u8]) -> bool
     }
     let right = is_header_right(report);
     if right {
-        let n = fields::u16_at(report, COUNT_AT) as usize;
+        let n = fields::number_at::<2>(report, COUNT_AT) as usize;
         return are_entries_right(report, n);
     }
     false
 }
 
 // "9 | a report is not well-formed | 1 or 2, which one; 1 if only one is lent"
-pub fn test_form(report: &[u8], which: u64) -> Verdict
+pub fn test_form(report: &[u8], which: u64) -> Result<(), Refusal>
     ensures { result ≡ form_test report.now which }
 {
     let right = is_well_formed(report);
@@ -155,5 +143,5 @@ pub fn test_form(report: &[u8], which: u64) -> Verdict
 pub fn check(report: &[u8]) -> Answer
     ensures { result ≡ checked report.now }
 {
-    answer::answer_of(test_form(report, 1), report.len() as u64)
+    answer::answer_of(test_form(report, 1).and(Ok(report.len() as u64)))
 }

@@ -1,6 +1,6 @@
 -- The tests of a combination, in two parts. Assumes nothing.
 use Rattle.std.specs.Prelude.{List, [], ◌∷◌, ℕ}
-use Rattle.basis.specs.declared.Verdict.{Verdict}
+use Rattle.basis.specs.Answers.{Verdict}
 use Rattle.meaning.specs.Calls.{form_test, year_test, shared_test, count_test}
 
 -- "9 for the first, 9 for the second"

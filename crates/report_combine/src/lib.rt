@@ -2,84 +2,69 @@
 #![tactic(auto)]
 
 ghost use Rattle.std.specs.Prelude.{◌≡◌};
-ghost use Rattle.basis.specs.declared.Verdict.TheVariants.{Passes};
-ghost use Rattle.basis.specs.Answers.{first_refusal, Gives};
+ghost use Rattle.basis.specs.Answers.{Passes, first_refusal, Gives, answered};
 ghost use Rattle.meaning.specs.Calls.{combination_tests, combined};
 ghost use Rattle.report_read.specs.Readable.{Readable};
 ghost use Rattle.report_merge.specs.Merge.{Combinable};
 ghost use Rattle.report_combine.specs.Tests.{form_tests, entry_tests};
 
 use answer::{answer_of, refuse_if};
-use basis::{Answer, Verdict};
+use basis::{Answer, Refusal};
 use report_check::test_form;
 use report_merge::{put_both, shared_number};
 use report_read::{MOST_ENTRIES, entry_count, length_of, year_of};
 
 // "9 for the first, 9 for the second"
-fn test_forms(first: &[u8], second: &[u8]) -> Verdict
+fn test_forms(first: &[u8], second: &[u8]) -> Result<(), Refusal>
     ensures { result ≡ first_refusal (form_tests first.now second.now) }
 {
-    let form = test_form(first, 1);
-    let Verdict::Passes = form else {
-        return form;
-    };
+    test_form(first, 1)?;
     test_form(second, 2)
 }
 
 // "10, 11, 12", of two well-formed reports.
-fn test_entries(first: &[u8], second: &[u8]) -> Verdict
+fn test_entries(first: &[u8], second: &[u8]) -> Result<(), Refusal>
     requires { Readable first.now × Readable second.now }
     ensures { result ≡ first_refusal (entry_tests first.now second.now) }
 {
-    if year_of(first) != year_of(second) {
-        return Verdict::Refuses {
-            number: 10,
-            place: 0,
-        };
-    }
+    refuse_if(year_of(first) != year_of(second), 10, 0)?;
     let shared = shared_number(first, second);
     let n = entry_count(first) + entry_count(second);
-    if 0 < shared {
-        return Verdict::Refuses {
-            number: 11,
-            place: shared,
-        };
+    if let Some(place) = shared {
+        return Err(Refusal { number: 11, place });
     }
     refuse_if(MOST_ENTRIES < n, 12, n as u64)
 }
 
 // "Combining: 9 for the first, 9 for the second, 10, 11, 12"
-fn test_combination(first: &[u8], second: &[u8]) -> Verdict
+fn test_combination(first: &[u8], second: &[u8]) -> Result<(), Refusal>
     ensures { result ≡ first_refusal (combination_tests first.now second.now) }
 {
-    let forms = test_forms(first, second);
-    let Verdict::Passes = forms else {
-        return forms;
-    };
+    test_forms(first, second)?;
     test_entries(first, second)
 }
 
 // "8", then the report. The two have passed the other tests.
-fn combine_entries(first: &[u8], second: &[u8], report: &mut [u8]) -> Answer
+fn combine_entries(first: &[u8], second: &[u8], report: &mut [u8]) -> Result<u64, Refusal>
     requires { Combinable first.now second.now × (first_refusal (combination_tests first.now second.now) ≡ Passes) }
-    ensures { Gives (combined first.now second.now report.old) result report.new }
+    ensures { Gives (combined first.now second.now report.old) (answered result) report.new }
 {
     let needed = length_of(entry_count(first) + entry_count(second));
-    let room = answer::test_room(report.len(), needed);
-    let Verdict::Passes = room else {
-        return answer_of(room, 0);
-    };
+    answer::test_room(report.len(), needed)?;
     put_both(first, second, report);
-    answer::accepted(needed as u64)
+    Ok(needed as u64)
+}
+
+fn combine_or_refuse(first: &[u8], second: &[u8], report: &mut [u8]) -> Result<u64, Refusal>
+    ensures { Gives (combined first.now second.now report.old) (answered result) report.new }
+{
+    test_combination(first, second)?;
+    combine_entries(first, second, report)
 }
 
 // "Combining writes the well-formed report of all entries of both"
 pub fn combine(first: &[u8], second: &[u8], report: &mut [u8]) -> Answer
     ensures { Gives (combined first.now second.now report.old) result report.new }
 {
-    let verdict = test_combination(first, second);
-    let Verdict::Passes = verdict else {
-        return answer_of(verdict, 0);
-    };
-    combine_entries(first, second, report)
+    answer_of(combine_or_refuse(first, second, report))
 }

@@ -1,3 +1,2 @@
 pub mod Entries
-pub mod Filling
-pub mod Halving
+pub mod Searching

@@ -2,10 +2,9 @@
 #![tactic(auto)]
 
 ghost use Rattle.std.specs.Prelude.{◌≡◌, ◌+◌, ◌*◌, ◌≤◌, ◌<◌, length};
-ghost use Rattle.basis.specs.First.{first};
 ghost use Rattle.meaning.specs.Report.{report_length, report_year, entry_count};
 ghost use Rattle.report_read.specs.Readable.{Readable};
-ghost use Rattle.report_read.specs.Entries.{entry_number, numbered_at};
+ghost use Rattle.report_read.specs.Entries.{entry_number, index_numbered};
 ghost use Rattle.report_read.specs.Figures.{figure_length, figures_at, added_at, Addable, taken_at, Takeable};
 
 use mass_exact::FIGURES;
@@ -60,48 +59,32 @@ pub fn year_of(report: &[u8]) -> u64
     requires { Readable report.now }
     ensures { result ≡ report_year report.now }
 {
-    fields::u16_at(report, YEAR_AT)
+    fields::number_at::<2>(report, YEAR_AT)
 }
 
 pub fn entry_count(report: &[u8]) -> usize
     requires { Readable report.now }
     ensures { result ≡ entry_count report.now }
 {
-    fields::u16_at(report, COUNT_AT) as usize
+    fields::number_at::<2>(report, COUNT_AT) as usize
 }
 
 pub fn entry_number(report: &[u8], i: usize) -> u64
     requires { Readable report.now × (i < entry_count report.now) }
     ensures { result ≡ entry_number report.now i }
 {
-    fields::u32_at(report, ENTRIES_AT + ENTRY_LENGTH * i)
+    fields::number_at::<4>(report, ENTRIES_AT + ENTRY_LENGTH * i)
 }
 
-// Binary search for the entry that has a number; the count where none has. For speed alone: the promise is the first index with that number.
-// Numbers ascend, so entries before low have smaller numbers, and those from high on have none that is smaller.
-pub fn entry_index_of(report: &[u8], number: u64) -> usize
+// The entry that has a number. For speed alone it is a binary search: the promise is the first index with that number.
+pub fn entry_index_of(report: &[u8], number: u64) -> Option<usize>
     requires { Readable report.now }
-    ensures { result ≡ first (numbered_at report.now number) (entry_count report.now) }
+    ensures { result ≡ index_numbered report.now number }
 {
-    let n = entry_count(report);
-    let mut low: usize = 0;
-    let mut high = n;
-    while low < high {
-        let mid = low + (high - low) / 2;
-        if entry_number(report, mid) < number {
-            low = mid + 1;
-            continue;
-        }
-        high = mid;
-    }
-    if n <= low {
-        return n;
-    }
-    let hit = entry_number(report, low) == number;
-    if hit {
-        return low;
-    }
-    n
+    let (entries, _) = report[ENTRIES_AT..].as_chunks::<ENTRY_LENGTH>();
+    entries
+        .binary_search_by_key(&number, |entry| fields::number_at::<4>(entry, 0))
+        .ok()
 }
 
 // Figures from a place on, as many as there is room for.
@@ -109,10 +92,8 @@ pub fn read_figures(s: &[u8], at: usize, to: &mut [u64])
     requires { at + figure_length * length to.old ≤ length s.now }
     ensures { to.new ≡ figures_at (length to.old) s.now at }
 {
-    let mut k: usize = 0;
-    while k < to.len() {
-        to[k] = fields::u64_at(s, at + FIGURE_LENGTH * k);
-        k += 1;
+    for (k, figure) in to.iter_mut().enumerate() {
+        *figure = fields::number_at::<8>(s, at + FIGURE_LENGTH * k);
     }
 }
 
@@ -121,23 +102,18 @@ pub fn add_figures(s: &[u8], at: usize, sums: &mut [u64])
     requires { Addable s.now at sums.old }
     ensures { sums.new ≡ added_at s.now at sums.old }
 {
-    let mut k: usize = 0;
-    while k < sums.len() {
-        let figure = fields::u64_at(s, at + FIGURE_LENGTH * k);
-        sums[k] = sums[k] + figure;
-        k += 1;
+    for (k, sum) in sums.iter_mut().enumerate() {
+        *sum += fields::number_at::<8>(s, at + FIGURE_LENGTH * k);
     }
 }
 
-// The figures from a place on, each taken from its own sum.
+// The figures from a place on, each taken from its own sum. Two loops of one line say less than one that is told which way to reckon: what is asked of the
+// sums differs.
 pub fn take_figures(s: &[u8], at: usize, sums: &mut [u64])
     requires { Takeable s.now at sums.old }
     ensures { sums.new ≡ taken_at s.now at sums.old }
 {
-    let mut k: usize = 0;
-    while k < sums.len() {
-        let figure = fields::u64_at(s, at + FIGURE_LENGTH * k);
-        sums[k] = sums[k] - figure;
-        k += 1;
+    for (k, sum) in sums.iter_mut().enumerate() {
+        *sum -= fields::number_at::<8>(s, at + FIGURE_LENGTH * k);
     }
 }

@@ -2,7 +2,7 @@
 #![tactic(auto)]
 
 ghost use Rattle.std.specs.Prelude.{◌≡◌, ◌+◌, ◌*◌, ◌-◌, ◌≤◌, ◌<◌, length};
-ghost use Rattle.basis.specs.Answers.{Gives};
+ghost use Rattle.basis.specs.Answers.{answered, Gives};
 ghost use Rattle.basis.specs.Bytes.{Written};
 ghost use Rattle.meaning.specs.Report.{report_header, report_bytes, report_year, report_length, entries_at, entry_length, entry_count};
 ghost use Rattle.meaning.specs.Report;
@@ -12,7 +12,7 @@ ghost use Rattle.report_read.specs.Entries.{entries_from, rows};
 ghost use Rattle.report_remove.specs.Others.{other_entries};
 
 use answer::answer_of;
-use basis::{Answer, Verdict};
+use basis::{Answer, Refusal};
 use mass_exact::FIGURES;
 use report_read::{
     ENTRIES_AT, ENTRY_LENGTH, FIGURES_AT, TOTALS_AT, entry_count, length_of, year_of,
@@ -70,31 +70,31 @@ fn put_others(report: &[u8], i: usize, res: &mut [u8])
 }
 
 // "13, 8", then the report. The one lent is well-formed.
-fn remove_entry(report: &[u8], number: u32, res: &mut [u8]) -> Answer
+fn remove_entry(report: &[u8], number: u32, res: &mut [u8]) -> Result<u64, Refusal>
     requires { Readable report.now }
-    ensures { Gives (removed report.now number res.old) result res.new }
+    ensures { Gives (removed report.now number res.old) (answered result) res.new }
 {
     let n = entry_count(report);
-    let i = report_read::entry_index_of(report, number as u64);
-    if n <= i {
-        return answer::refused(13, number as u64);
-    }
+    let i = report_read::entry_index_of(report, number as u64).ok_or(Refusal {
+        number: 13,
+        place: number as u64,
+    })?;
     let needed = length_of(n - 1);
-    let room = answer::test_room(res.len(), needed);
-    let Verdict::Passes = room else {
-        return answer_of(room, 0);
-    };
+    answer::test_room(res.len(), needed)?;
     put_others(report, i, res);
-    answer::accepted(needed as u64)
+    Ok(needed as u64)
+}
+
+fn remove_or_refuse(report: &[u8], number: u32, res: &mut [u8]) -> Result<u64, Refusal>
+    ensures { Gives (removed report.now number res.old) (answered result) res.new }
+{
+    report_check::test_form(report, 1)?;
+    remove_entry(report, number, res)
 }
 
 // "Removal: 9, 13, 8"
 pub fn remove(report: &[u8], number: u32, res: &mut [u8]) -> Answer
     ensures { Gives (removed report.now number res.old) result res.new }
 {
-    let form = report_check::test_form(report, 1);
-    let Verdict::Passes = form else {
-        return answer_of(form, 0);
-    };
-    remove_entry(report, number, res)
+    answer_of(remove_or_refuse(report, number, res))
 }

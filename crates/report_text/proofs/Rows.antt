@@ -50,9 +50,6 @@ pub record Measuring (b : List ℕ) (at total k : ℕ) : Type 0 where
   pub rest : total + spans (drop k (figures_at figure_count b at)) ≡ spans (figures_at figure_count b at)
   pub small : total ≤ 21 * k
 
-pub measuring_none : (b : List ℕ) (at : ℕ) → Measuring b at 0 0
-measuring_none b at = record { low = omega arith; rest = omega arith; small = omega arith }
-
 module _ {b : List ℕ} {at total k : ℕ} (m : Measuring b at total k) where
   abbrev figures : List ℕ
   figures = figures_at figure_count b at

@@ -1,4 +1,5 @@
 -- The whole text: its length, its lines one behind another, and the answer of the call. Assumes nothing.
+use Rattle.std.specs.Prelude.{Result, Ok, Err, IsErrAnd}
 use mathlib.Core.List.{List, [], ◌∷◌, ◌++◌, map, append_assoc}
 use mathlib.Core.Path.{◌≡◌, refl, sym, ap, ◌∙◌}
 use Prim.Native.Nat.{ℕ, zero, suc, ◌+◌, ◌*◌, ◌-◌, ◌≤◌, ◌<◌}
@@ -7,13 +8,10 @@ use native.Mathlib.Numerals.{add-one}
 use native.Mathlib.Omega.{arith}
 use mir.Syntax.{w64}
 use mir.Val.{Fits}
-use borrow.Author.Rules.{rules}
 use lib.Dec.{ltb}
 use lib.ListN.{length, length-append}
-use Rattle.basis.specs.declared.Answer.{Answer}
-use Rattle.basis.specs.declared.Verdict.{Verdict}
-use Rattle.basis.specs.declared.Verdict.TheVariants.{Passes, Refuses}
-use Rattle.basis.specs.Answers.{refuse_if, first_refusal, answer, Gives}
+use Rattle.basis.specs.declared.Refusal.{Refusal}
+use Rattle.basis.specs.Answers.{Verdict, Passes, refuse_if, first_refusal, answered, Gives}
 use Rattle.basis.specs.Bytes.{splice, Written}
 use Rattle.basis.proofs.Bytes.{length-written, written_then}
 use Rattle.basis.specs.Lists.{count_up, joined}
@@ -32,8 +30,7 @@ use Rattle.decimal_write.proofs.Counts.{some-digit, decimal-many}
 use Rattle.decimal_write.proofs.Digits.{put_none, put_before}
 use Rattle.report_text.specs.Rows.{Measured, head_numbers, entry_numbers, front_fields, entry_line, entry_lines, text_of}
 use Rattle.decimal_write.proofs.Fields.{length-field, second-room, first-room}
-use Rattle.report_text.proofs.Rows.{totals_are, entry_read, method_read}
-use Rattle.report_text.proofs.Rows.{length-figures as figures-length}
+use Rattle.report_text.proofs.Rows.{totals_are, entry_read, method_read, length-figures as figures-length}
 
 -- the lines of the entries from i on
 unfoldable pub lines_from : List ℕ → ℕ → List ℕ
@@ -98,8 +95,6 @@ module _ {b : List ℕ} {total i : ℕ} (t : Lengthening b total i) {n : ℕ} (f
   pub lengthening_all : n ≤ i → total ≡ length (text_of b)
   lengthening_all l = omega (arith, t.rest, ap length (lines_none b i (omega (arith, f))))
 
-pub ruleset lengthening = (rules, lengthening_none, lengthening_fits, lengthening_more, lengthening_all)
-
 -- the lines from an entry on are not longer than all
 from-within : (b : List ℕ) (i : ℕ) → i ≤ entry_count b → length (lines_from b i) ≤ length (entry_lines b)
 from-within b zero l = omega (arith, ap length (lines-all b))
@@ -142,8 +137,6 @@ module _ {b buf₀ : List ℕ} {end : ℕ} {buf : List ℕ} {p i : ℕ} (t : Tex
 
   pub texting_all : i ≤ 0 → Put buf₀ p (entry_lines b) buf end
   texting_all l = let z : i ≡ 0 = omega arith in let e : lines_from b i ≡ entry_lines b = rw z (lines-all b) in rw e at t.put
-
-pub ruleset texting = (rules, texting_none, texting_kept, texting_entry, texting_room, texting_more, texting_all)
 
 -- the figures of a line, and the two numbers before them
 figures_are : {b : List ℕ} {at co2 ch4 n2o equivalent : ℕ} → Field 8 b at co2 → Field 8 b (at + 8) ch4 → Field 8 b (at + 16) n2o → Field 8 b (at + 24) equivalent
@@ -261,9 +254,10 @@ module _ (b buf : List ℕ) (end : ℕ) (h : Readable b × (end ≡ length (text
 
 -- where the report is malformed, where there is no room, and where the text is made
 module _ (b buf : List ℕ) where
-  pub text_malformed : {v : Verdict} {n p : ℕ} {a : Answer} → v ≡ form_test b 1 → v ≡ Refuses n p → a ≡ answer v 0 → Gives (text b buf) a buf
+  pub text_malformed : {v : Verdict} {refusal : Refusal} (w : Result ℕ Refusal) → v ≡ form_test b 1 → v ≡ Err refusal → IsErrAnd w (λ r. r ≡ refusal)
+      → Gives (text b buf) (answered w) buf
   unfolding text first_refusal
-  text_malformed e t = refused-gives (form_test b 1 ∷ []) (text_of b) buf (rw (← e, t)) t
+  text_malformed w e t = refused-gives (form_test b 1 ∷ []) (text_of b) buf w (rw (← e, t)) t
 
   module _ (r : Readable b) {needed : ℕ} (l : needed ≡ length (text_of b)) where
     passed : first_refusal (form_test b 1 ∷ []) ≡ Passes
@@ -273,10 +267,11 @@ module _ (b buf : List ℕ) where
     pub text-room : {v : Verdict} → v ≡ refuse_if (ltb (length buf) needed) 8 needed → v ≡ Passes → needed ≤ length buf
     text-room s t = room-there (length buf) needed s t
 
-    pub text-short : {v : Verdict} {n p : ℕ} {a : Answer} → v ≡ refuse_if (ltb (length buf) needed) 8 needed → v ≡ Refuses n p → a ≡ answer v 0 → Gives (text b buf) a buf
+    pub text-short : {v : Verdict} {refusal : Refusal} (w : Result ℕ Refusal) → v ≡ refuse_if (ltb (length buf) needed) 8 needed → v ≡ Err refusal
+        → IsErrAnd w (λ r. r ≡ refusal) → Gives (text b buf) (answered w) buf
     unfolding text
     text-short = short-gives (form_test b 1 ∷ []) (text_of b) buf passed (sym l)
 
-    pub text-made : {left : List ℕ} {a : Answer} → Written buf 0 (text_of b) left → a ≡ answer Passes needed → Gives (text b buf) a left
+    pub text-made : {left : List ℕ} → Written buf 0 (text_of b) left → Gives (text b buf) (answered (Ok needed)) left
     unfolding text
     text-made = made-gives (form_test b 1 ∷ []) (text_of b) buf passed (sym l)

@@ -2,7 +2,7 @@
 #![tactic(auto)]
 
 ghost use Rattle.std.specs.Prelude.{◌≡◌, ◌+◌, ◌*◌, ◌≤◌, ◌<◌, length};
-ghost use Rattle.basis.specs.Answers.{Gives};
+ghost use Rattle.basis.specs.Answers.{answered, Gives};
 ghost use Rattle.basis.specs.Bytes.{Written};
 ghost use Rattle.meaning.specs.Text.{text_line};
 ghost use Rattle.meaning.specs.Report.{figure_count, entry_count, entry_at, entry_in};
@@ -13,7 +13,7 @@ ghost use Rattle.report_read.specs.Readable.{Readable};
 ghost use Rattle.report_text.specs.Rows.{Measured, head_numbers, entry_numbers, front_fields, entry_line, entry_lines, text_of};
 
 use answer::answer_of;
-use basis::{Answer, Verdict};
+use basis::{Answer, Refusal};
 use decimal_write::{digit_count, put_field_at, put_pair};
 use mass_exact::FIGURES;
 use report_read::{
@@ -29,13 +29,10 @@ fn measure_figures(report: &[u8], at: usize) -> usize
     requires { at + figure_length * figure_count ≤ length report.now }
     ensures { Measured (figures_at figure_count report.now at) result }
 {
-    let mut total: usize = 0;
-    let mut k: usize = 0;
-    while k < FIGURES {
-        let figure = fields::u64_at(report, at + FIGURE_LENGTH * k);
-        let digits = digit_count(figure);
+    let mut total = 0;
+    for k in 0..FIGURES {
+        let digits = digit_count(fields::number_at::<8>(report, at + FIGURE_LENGTH * k));
         total += digits + 1;
-        k += 1;
     }
     total
 }
@@ -45,10 +42,10 @@ fn put_figure_fields(report: &[u8], at: usize, buf: &mut [u8], end: usize) -> us
     requires { (at + figure_length * figure_count ≤ length report.now) × Ends buf.old (text_line (figures_at figure_count report.now at)) end }
     ensures { Put buf.old result (text_line (figures_at figure_count report.now at)) buf.new end }
 {
-    let co2 = fields::u64_at(report, at);
-    let ch4 = fields::u64_at(report, at + FIGURE_LENGTH);
-    let n2o = fields::u64_at(report, at + 2 * FIGURE_LENGTH);
-    let equivalent = fields::u64_at(report, at + 3 * FIGURE_LENGTH);
+    let co2 = fields::number_at::<8>(report, at);
+    let ch4 = fields::number_at::<8>(report, at + FIGURE_LENGTH);
+    let n2o = fields::number_at::<8>(report, at + 2 * FIGURE_LENGTH);
+    let equivalent = fields::number_at::<8>(report, at + 3 * FIGURE_LENGTH);
     let p = put_pair(buf, end, n2o, equivalent, b'\n');
     put_pair(buf, p, co2, ch4, b' ')
 }
@@ -79,12 +76,9 @@ fn measure_text(report: &[u8]) -> usize
     requires { Readable report.now }
     ensures { result ≡ length (text_of report.now) }
 {
-    let n = entry_count(report);
     let mut total = measure_head(report);
-    let mut i: usize = 0;
-    while i < n {
+    for i in 0..entry_count(report) {
         total += measure_entry(report, i);
-        i += 1;
     }
     total
 }
@@ -95,7 +89,7 @@ fn put_entry_line(report: &[u8], i: usize, buf: &mut [u8], end: usize) -> usize
 {
     let at = ENTRIES_AT + ENTRY_LENGTH * i;
     let number = entry_number(report, i);
-    let method = fields::u8_at(report, at + METHOD_AT);
+    let method = fields::number_at::<1>(report, at + METHOD_AT);
     let p = put_figure_fields(report, at + FIGURES_AT, buf, end);
     put_pair(buf, p, number, method, b' ')
 }
@@ -105,10 +99,8 @@ fn put_lines(report: &[u8], buf: &mut [u8], end: usize) -> usize
     requires { Readable report.now × Ends buf.old (entry_lines report.now) end }
     ensures { Put buf.old result (entry_lines report.now) buf.new end }
 {
-    let mut i = entry_count(report);
     let mut p = end;
-    while 0 < i {
-        i -= 1;
+    for i in (0..entry_count(report)).rev() {
         p = put_entry_line(report, i, buf, p);
     }
     p
@@ -136,26 +128,26 @@ fn put_text(report: &[u8], buf: &mut [u8], end: usize)
 }
 
 // "8", then the text. The report is well-formed.
-fn write_text(report: &[u8], buffer: &mut [u8]) -> Answer
+fn write_text(report: &[u8], buffer: &mut [u8]) -> Result<u64, Refusal>
     requires { Readable report.now }
-    ensures { Gives (Calls.text report.now buffer.old) result buffer.new }
+    ensures { Gives (Calls.text report.now buffer.old) (answered result) buffer.new }
 {
     let needed = measure_text(report);
-    let room = answer::test_room(buffer.len(), needed);
-    let Verdict::Passes = room else {
-        return answer_of(room, 0);
-    };
+    answer::test_room(buffer.len(), needed)?;
     put_text(report, buffer, needed);
-    answer::accepted(needed as u64)
+    Ok(needed as u64)
+}
+
+fn text_or_refusal(report: &[u8], buffer: &mut [u8]) -> Result<u64, Refusal>
+    ensures { Gives (Calls.text report.now buffer.old) (answered result) buffer.new }
+{
+    report_check::test_form(report, 1)?;
+    write_text(report, buffer)
 }
 
 // The text of a report at the front of a buffer: 9 with place 1, then 8 with the length needed.
 pub fn text(report: &[u8], buffer: &mut [u8]) -> Answer
     ensures { Gives (Calls.text report.now buffer.old) result buffer.new }
 {
-    let form = report_check::test_form(report, 1);
-    let Verdict::Passes = form else {
-        return answer_of(form, 0);
-    };
-    write_text(report, buffer)
+    answer_of(text_or_refusal(report, buffer))
 }

@@ -1,21 +1,17 @@
 -- What is written of a report: numbers behind one another, figures, an entry, a header. Assumes nothing.
-use mathlib.Core.List.{List, [], ◌∷◌, ◌++◌, map, append_assoc, append-nil}
+use mathlib.Core.List.{List, [], ◌∷◌, ◌++◌, append_assoc, append-nil}
 use mathlib.Core.Path.{◌≡◌, refl, sym, ap, ◌∙◌}
 use Prim.Native.Nat.{ℕ, ◌+◌, ◌*◌, ◌-◌, ◌/◌, ◌≤◌, ◌<◌}
 use native.Mathlib.Nat.{add-zero}
 use native.Mathlib.Numerals.{add-one}
 use native.Mathlib.Omega.{arith}
-use borrow.Author.Rules.{rules}
-use lib.ListN.{length, get_or, take, drop, set, replicate, length-append, length-drop, drop_of_length-le}
+use lib.ListN.{length, get_or, take, drop, replicate, length-append, length-drop, drop_of_length-le}
 use lib.Seq.{drop-cons, length-take-le}
 use Rattle.basis.specs.Bytes.{bytes_of, packed, Bytes, splice, Written}
-use Rattle.basis.specs.Lists.{count_up}
 use Rattle.basis.proofs.Bytes.{length-bytes_of, written_then}
-use Rattle.basis.proofs.Counting.{counted_all}
-use Rattle.basis.proofs.Filling.{Filled, filled_none, filled_more, filled-all}
 use Rattle.basis.proofs.Rows.{bytes_drop}
 use Rattle.meaning.specs.Masses.{gas_count}
-use Rattle.meaning.specs.Report.{Entry, figures, figure_count, totals, report_tag, report_layout, entries_at, entry_length, report_length, report_header, entry_bytes, entry_count, entry_at, entry_in}
+use Rattle.meaning.specs.Report.{Entry, figures, totals, report_tag, report_layout, entries_at, entry_length, report_length, report_header, entry_bytes, entry_count, entry_at, entry_in}
 use Rattle.meaning.proofs.Reports.{formed, length-figures, entry-again, length-totals}
 use Rattle.fields.proofs.Laws.{Writing, writing_none, writing_then, writing_all}
 use Rattle.report_read.specs.Readable.{Readable}
@@ -51,10 +47,6 @@ pub placing_none : (bs : List ℕ) (at : ℕ) (ns : List ℕ) → at + 8 * lengt
 placing_none bs at ns h = record { low = omega arith; left = rw add-zero (writing_none bs at (figure_bytes ns) (rw (length-figure_bytes ns) h)) }
 
 module _ {bs₀ : List ℕ} {at : ℕ} {ns bs : List ℕ} {k : ℕ} (p : Placing bs₀ at ns bs k) where
-  pub placing_room : k < length ns → at + 8 * k + 8 ≤ length bs
-  placing_room l =
-      omega (arith, p.left.fits, p.left.kept, length-figure_bytes ns)
-
   pub placing_more : {cs : List ℕ} → k < length ns → Written bs (at + 8 * k) (bytes_of 8 (get_or ns k 0)) cs → Placing bs₀ at ns cs (k + 1)
   unfolding figure_bytes packed
   placing_more l w =
@@ -65,8 +57,6 @@ module _ {bs₀ : List ℕ} {at : ℕ} {ns bs : List ℕ} {k : ℕ} (p : Placing
   pub placing_all : length ns ≤ k → Written bs₀ at (figure_bytes ns) bs
   unfolding figure_bytes packed
   placing_all l = writing_all (rw (drop_of_length-le ns l) at p.left)
-
-pub ruleset placing = (rules, placing_none, placing_room, placing_more, placing_all)
 
 pub length_put : (n : ℕ) {whole : ℕ} {xs ys zs : List ℕ} → whole ≡ report_length n → Written xs 16 (bytes_of 4 whole) ys → Written ys 20 (bytes_of 4 0) zs
     → Written xs 16 (packed (4 ∷ 4 ∷ []) (report_length n ∷ 0 ∷ [])) zs
@@ -93,28 +83,6 @@ pub entry_fronted : (number method : ℕ) {at : ℕ} {xs ys zs : List ℕ} → m
 unfolding packed
 entry_fronted number method l p q =
     same_bytes (ap (λ (bs : List ℕ). bytes_of 4 number ++ bs) (zeros_behind method l)) (written_then p q (rw (length-bytes_of 4 number)))
-
--- k figures are copied
-pub record Owning (ns own₀ own : List ℕ) (k : ℕ) : Type 0 where
-  pub sized : length own₀ ≡ figure_count
-  pub filled : Filled (λ i. get_or ns i 0) own₀ own k
-
-pub owning_none : (ns own : List ℕ) → length own ≡ figure_count → Owning ns own own 0
-owning_none ns own e = record { sized = e; filled = filled_none (λ i. get_or ns i 0) own }
-
-module _ {ns own₀ own : List ℕ} {k : ℕ} (o : Owning ns own₀ own k) where
-  pub owning_length : length own ≡ figure_count
-  owning_length = o.filled.kept ∙ o.sized
-
-  pub owning_more : k < figure_count → Owning ns own₀ (set own k (get_or ns k 0)) (k + 1)
-  owning_more l = record { sized = o.sized; filled = filled_more o.filled (rw owning_length l) refl }
-
-  pub owning_all : length ns ≡ figure_count → figure_count ≤ k → own ≡ ns
-  owning_all e l =
-      let all : own ≡ map (λ i. get_or ns i 0) (count_up 0 (length own₀)) = filled-all o.filled (rw owning_length l) in
-      all ∙ rw (o.sized, ← e) (counted_all (λ i. get_or ns i 0) 0 ns (λ i m. refl))
-
-pub ruleset owning = (rules, owning_none, owning_length, owning_more, owning_all)
 
 -- an entry's front, and its figures behind it
 pub entry-written : (number method : ℕ) (ns : List ℕ) {at : ℕ} {xs ys zs : List ℕ} → Written xs at (packed (4 ∷ 1 ∷ 3 ∷ []) (number ∷ method ∷ 0 ∷ [])) ys

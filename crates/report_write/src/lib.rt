@@ -19,10 +19,8 @@ fn put_figures(buf: &mut [u8], at: usize, figures: &[u64])
     requires { at + figure_length * length figures.now ≤ length buf.old }
     ensures { Written buf.old at (figure_bytes figures.now) buf.new }
 {
-    let mut k: usize = 0;
-    while k < figures.len() {
-        fields::put_u64(buf, at + FIGURE_LENGTH * k, figures[k]);
-        k += 1;
+    for (k, figure) in figures.iter().enumerate() {
+        fields::put_number::<8>(buf, at + FIGURE_LENGTH * k, *figure);
     }
 }
 
@@ -31,8 +29,8 @@ fn put_entry_front(buf: &mut [u8], at: usize, number: u64, method: u64)
     requires { (at + 8 ≤ length buf.old) × (method < 256) }
     ensures { Written buf.old at (packed (4 ∷ 1 ∷ 3 ∷ []) (number ∷ method ∷ 0 ∷ [])) buf.new }
 {
-    fields::put_u32(buf, at, number);
-    fields::put_u32(buf, at + METHOD_AT, method);
+    fields::put_number::<4>(buf, at, number);
+    fields::put_number::<4>(buf, at + METHOD_AT, method);
 }
 
 // The entry of a number, a method and figures.
@@ -50,8 +48,8 @@ fn put_tag_and_year(buf: &mut [u8], year: u64)
     ensures { Written buf.old 0 (report_tag ++ packed (2 ∷ 2 ∷ []) (report_layout ∷ year ∷ [])) buf.new }
 {
     fields::put_bytes(buf, 0, b"GREP");
-    fields::put_u16(buf, LAYOUT_AT, LAYOUT);
-    fields::put_u16(buf, YEAR_AT, year);
+    fields::put_number::<2>(buf, LAYOUT_AT, LAYOUT);
+    fields::put_number::<2>(buf, YEAR_AT, year);
 }
 
 // "count n (2), zero (2), offset of entries 56 (4)"
@@ -59,9 +57,9 @@ fn put_count(buf: &mut [u8], n: u64)
     requires { entries_at ≤ length buf.old }
     ensures { Written buf.old 8 (packed (2 ∷ 2 ∷ 4 ∷ []) (n ∷ 0 ∷ entries_at ∷ [])) buf.new }
 {
-    fields::put_u16(buf, COUNT_AT, n);
+    fields::put_number::<2>(buf, COUNT_AT, n);
     fields::put_zeros(buf, FIRST_ZERO_AT, 2);
-    fields::put_u32(buf, OFFSET_AT, ENTRIES_AT as u64);
+    fields::put_number::<4>(buf, OFFSET_AT, ENTRIES_AT as u64);
 }
 
 // "whole length 56 + 40n (4), zero (4)"
@@ -69,7 +67,7 @@ fn put_length(buf: &mut [u8], n: usize)
     requires { (entries_at ≤ length buf.old) × (n ≤ most_sources) }
     ensures { Written buf.old 16 (packed (4 ∷ 4 ∷ []) (report_length n ∷ 0 ∷ [])) buf.new }
 {
-    fields::put_u32(buf, LENGTH_AT, length_of(n) as u64);
+    fields::put_number::<4>(buf, LENGTH_AT, length_of(n) as u64);
     fields::put_zeros(buf, SECOND_ZERO_AT, 4);
 }
 

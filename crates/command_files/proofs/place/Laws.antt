@@ -1,30 +1,15 @@
 -- What may be replaced and where a link leads, in laws. Assumes nothing.
-use mathlib.Core.Bool.{Bool, true, false, cond}
-use mathlib.Core.List.{List}
-use mathlib.Core.Path.{◌≡◌, refl, sym, ◌∙◌}
-use Prim.Native.Nat.{ℕ, zero, suc, ◌+◌, ◌-◌, ◌≤◌, ◌<◌}
-use native.Mathlib.Nat.{zero-add}
-use native.Mathlib.Omega.{arith}
-use lib.ListN.{length, take, length-append, take-append-drop, get_or-eq_default}
+use Rattle.std.proofs.Common.{◌≡◌, ◌≢◌, refl, sym, ◌∙◌, ℕ, zero, suc, ◌+◌, ◌-◌, ◌≤◌, ◌<◌, zero-add, Bool, true, false, cond, List, length, get_or, take, length-append, arith}
+use Rattle.std.proofs.lemmas.Bool.{eq-eqb, ne_eqb}
+use Rattle.std.proofs.lemmas.List.{get_or-take}
+use native.Mathlib.Decide.{ℕ_discrete}
+use lib.ListN.{take-append-drop}
 use lib.Seq.{length-take-le}
-use Rattle.basis.specs.Bytes.{splice, starts_with, Written}
+use Rattle.basis.specs.Bytes.{splice, Written}
 use Rattle.basis.proofs.Bytes.{written_then}
-use Rattle.meaning.specs.Register.{register_tag}
 use Rattle.decimal_write.specs.Digits.{Fronted}
 use Rattle.decimal_write.proofs.Fields.{fronted}
-use Rattle.command_files.specs.declared.place.Place.{Place}
-use Rattle.command_files.specs.declared.place.Place.TheVariants.{Barred, Plain}
-use Rattle.command_files.specs.Places.{front_judged, Spared, is_slash, folder_length, text_at, led_to}
-
-module _ (front : List ℕ) (mode : ℕ) {tagged : Bool} (e : tagged ≡ starts_with register_tag front) where
-  pub front_barred : tagged ≡ true → Barred ≡ front_judged front mode
-  front_barred t = rw (sym e ∙ t) refl
-
-  pub front_plain : tagged ≡ false → Plain mode ≡ front_judged front mode
-  front_plain f = rw (sym e ∙ f) refl
-
-pub judged_spared : (front : List ℕ) (mode : ℕ) {place : Place} → place ≡ front_judged front mode → Spared front place
-judged_spared front mode e = λ t. e ∙ rw t refl
+use Rattle.command_files.specs.Places.{is_slash, folder_length, text_at, led_to}
 
 slash_here : (room : List ℕ) (n : ℕ) → is_slash room n ≡ true → folder_length room (suc n) ≡ suc n
 unfolding folder_length
@@ -34,30 +19,26 @@ slash_before : (room : List ℕ) (n : ℕ) → is_slash room n ≡ false → fol
 unfolding folder_length
 slash_before room n e = rw e
 
--- the loop's turns, from the path's end down to its last slash
-module _ (room : List ℕ) (n end : ℕ) (same : folder_length room end ≡ folder_length room n) where
-  pub folder_found : 0 < end → is_slash room (end - 1) ≡ true → end ≡ folder_length room n
-  folder_found l e = let s : suc (end - 1) ≡ end = omega arith in sym (rw s at (slash_here room (end - 1) e)) ∙ same
+-- a slash with none behind it ends the folder
+pub folder_found : (path : List ℕ) (n end : ℕ) → end ≤ n → (0 < end → get_or path (end - 1) 0 ≡ 47) → ((k : ℕ) → end ≤ k → k < n → get_or path k 0 ≢ 47)
+    → end ≡ folder_length path n
+unfolding folder_length
+folder_found path zero end l here behind = omega arith
+folder_found path (suc n) end l here behind = by (ℕ_discrete end (suc n)) (λ m. folder_found path n end m here (λ k p q. behind k p (omega arith)))
+  where
+    by : Dec (end ≡ suc n) → (end ≤ n → end ≡ folder_length path n) → end ≡ folder_length path (suc n)
+    by (yes e) shorter = let last : end - 1 ≡ n = omega arith in e ∙ sym (slash_here path n (eq-eqb (get_or path n 0) 47 (rw last at (here (omega arith)))))
+    by (no f) shorter = shorter (omega arith) ∙ sym (slash_before path n (ne_eqb (get_or path n 0) 47 (behind n (omega arith) (omega arith))))
 
-  pub folder_passed : 0 < end → is_slash room (end - 1) ≡ false → folder_length room (end - 1) ≡ folder_length room n
-  folder_passed l e = let s : suc (end - 1) ≡ end = omega arith in sym (rw s at (slash_before room (end - 1) e)) ∙ same
+-- a path is the front of its room
+folder_front : (room : List ℕ) (n k : ℕ) → k ≤ n → folder_length (take n room) k ≡ folder_length room k
+unfolding folder_length
+folder_front room n zero l = refl
+folder_front room n (suc k) l = rw (get_or-take n room k 0 (omega arith), folder_front room n k (omega arith)) refl
 
-  pub folder_none : end ≤ 0 → 0 ≡ folder_length room n
-  unfolding folder_length
-  folder_none l = let z : end ≡ 0 = omega arith in rw z at same
-
--- an empty path begins nowhere
-pub unrooted : (path : List ℕ) → length path ≡ 0 → false ≡ is_slash path 0
-unrooted path e = let d = get_or-eq_default path 0 {n = 0} (omega arith) in rw d refl
-
-module _ (text room : List ℕ) (n : ℕ) where
-  pub text-at_root : {r : Bool} → r ≡ is_slash text 0 → r ≡ true → 0 ≡ text_at text room n
-  unfolding text_at
-  text-at_root e t = rw (sym e ∙ t) refl
-
-  pub text_behind : {r : Bool} → r ≡ is_slash text 0 → r ≡ false → {m : ℕ} → m ≡ folder_length room n → m ≡ text_at text room n
-  unfolding text_at
-  text_behind e f g = rw (sym e ∙ f) g
+pub text_front : (text room : List ℕ) (n : ℕ) → n ≤ length room → text_at text (take n room) (length (take n room)) ≡ text_at text room n
+unfolding text_at
+text_front text room n l = rw (length-take-le n room l, folder_front room n n (omega arith)) refl
 
 either_fits : (b : Bool) {x y m : ℕ} → x ≤ m → y ≤ m → cond b x y ≤ m
 either_fits true l k = l

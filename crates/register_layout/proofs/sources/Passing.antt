@@ -6,13 +6,11 @@ use Prim.Native.Nat.{ℕ, ◌+◌, ◌≤◌, ◌<◌}
 use native.Mathlib.Omega.{arith}
 use borrow.Author.Tests.{lt-ltb, le-ltb}
 use lib.Dec.{eqb}
-use Rattle.basis.specs.declared.Verdict.{Verdict}
-use Rattle.basis.specs.declared.Verdict.TheVariants.{Refuses}
+use Rattle.basis.specs.Answers.{Verdict, Refuses, refuse_if, refuse_at_first, first_refusal}
+use Rattle.basis.proofs.Answers.{single_test}
 use Rattle.basis.specs.First.{first}
-use Rattle.basis.specs.Answers.{refuse_if, refuse_at_first, first_refusal}
 use Rattle.meaning.specs.Register.{source_count, line_count, name_bytes, line_start, name_start, wrong_source, source_test, rest_test}
 use Rattle.register_header.specs.Header.{Headed}
-use Rattle.register_header.proofs.Laws.{first_or_later}
 use Rattle.register_layout.specs.Layout.{StartsAt}
 use Rattle.basis.proofs.Scans.{Scanning, scan-none, scan-found, scan_more, scan-all}
 
@@ -48,4 +46,4 @@ module _ {b : List ℕ} {n i line byte : ℕ} (p : Passing b n i line byte) wher
   passing_all h f g e =
       let k : i ≡ n = omega (arith, p.scanning.low) in
       let l : n ≡ first (wrong_source b) n = rw k at (scan-all p.scanning h) in
-      e ∙ rw (p.begins.at_line, p.begins.at_byte, k, f, g, ← p.all, ← l, le-ltb n n (omega arith), first_or_later, first_or_later)
+      e ∙ rw (p.begins.at_line, p.begins.at_byte, k, f, g, ← p.all, ← l, le-ltb n n (omega arith)) (sym (single_test _))

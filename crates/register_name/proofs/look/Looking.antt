@@ -1,26 +1,25 @@
 -- A number looked up in one register: what one that is accepted keeps, the search for the number, and what is sought there. Assumes nothing.
+use Rattle.std.specs.Prelude.{Some, None}
+use mathlib.Core.Logic.{◌≢◌}
 use mathlib.Core.Bool.{Bool, true, false}
 use mathlib.Core.List.{List}
-use mathlib.Core.Path.{◌≡◌, sym, ◌∙◌}
+use mathlib.Core.Path.{◌≡◌, sym, ap, ◌∙◌}
 use Prim.Native.Nat.{ℕ, ◌+◌, ◌≤◌, ◌<◌}
-use native.Mathlib.Omega.{arith}
-use borrow.Author.Tests.{lt-ltb, le-ltb}
+use borrow.Author.Tests.{lt-ltb, le-ltb, eq-eqb, ne_eqb}
 use lib.Dec.{eqb, ltb}
-use lib.ListN.{length}
-use Rattle.basis.specs.declared.Verdict.TheVariants.{Passes}
-use Rattle.basis.specs.Answers.{first_refusal}
+use Rattle.basis.specs.Answers.{Passes, first_refusal}
 use Rattle.basis.proofs.Answers.{passes-is}
 use Rattle.basis.proofs.Bools.{or_false}
 use Rattle.basis.proofs.Scans.{Scanning, scan-none, scan-found, scan_more, scan-all}
 use Rattle.fields.specs.Fields.{Field}
 use Rattle.meaning.specs.declared.Part.{Part}
-use Rattle.meaning.specs.Register.{sources_at, source_count, source_entry, name_place, source_at, misplaced, unsound, wrong_source, register_tests}
-use Rattle.meaning.specs.Calls.{accepted, has_number, index_of, holds, name_at, found}
+use Rattle.meaning.specs.Register.{source_count, source_entry, name_place, source_at, misplaced, unsound, wrong_source, register_tests}
+use Rattle.meaning.specs.Calls.{accepted, has_number, index_of, holds, name_at}
 use Rattle.meaning.proofs.Registers.{right-register}
 use Rattle.meaning.proofs.Sources.{Placed, placed}
-use Rattle.register_header.specs.Header.{Headed, HasEntry}
+use Rattle.register_header.specs.Header.{Headed}
 use Rattle.register_order.proofs.Tested.{passed_headed}
-use Rattle.register_name.specs.Lookups.{Seeks}
+use Rattle.register_name.specs.Lookups.{named}
 
 -- what a register that is accepted keeps
 module _ (b : List ℕ) (e : accepted b ≡ true) where
@@ -30,12 +29,6 @@ module _ (b : List ℕ) (e : accepted b ≡ true) where
 
   pub accepted_headed : Headed b
   accepted_headed = passed_headed b accepted-passes
-
-  pub accepted-entry : {n i : ℕ} → n ≡ source_count b → i < n → HasEntry b i
-  accepted-entry f l = record { head = accepted_headed; below = omega (arith, f) }
-
-  pub accepted-long : sources_at ≤ length b
-  accepted-long = omega (arith, accepted_headed.whole)
 
   pub accepted-placed : (i : ℕ) → i < source_count b → Placed b i
   unfolding wrong_source
@@ -58,37 +51,30 @@ module _ {b : List ℕ} {number n i : ℕ} (f : Finding b number n i) where
   unfolding has_number
   has g e = rw g.is at e
 
-  pub find_hit : {x : ℕ} → i < n → Field 4 (source_entry b i) 0 x → eqb x number ≡ true → i ≡ index_of b number
+  pub find_hit : {x : ℕ} → i < n → Field 4 (source_entry b i) 0 x → x ≡ number → i ≡ index_of b number
   unfolding index_of
-  find_hit h g e = rw (← f.all) (scan-found f.scanning h (has g e))
+  find_hit h g e = rw (← f.all) (scan-found f.scanning h (has g (eq-eqb _ _ e)))
 
-  pub find_more : {x : ℕ} → i < n → Field 4 (source_entry b i) 0 x → eqb x number ≡ false → Finding b number n (i + 1)
-  find_more h g e = record { head = f.head; all = f.all; scanning = scan_more f.scanning h (has g e) }
+  pub find_more : {x : ℕ} → i < n → Field 4 (source_entry b i) 0 x → x ≢ number → Finding b number n (i + 1)
+  find_more h g e = record { head = f.head; all = f.all; scanning = scan_more f.scanning h (has g (ne_eqb _ _ e)) }
 
   pub find_all : n ≤ i → i ≡ index_of b number
   unfolding index_of
   find_all h = rw (← f.all) (scan-all f.scanning h)
 
-abbrev pub nothing : Part
-nothing = record { offset = 0; length = 0 }
+module _ {b : List ℕ} {number n i : ℕ} (f : Finding b number n i) where
+  pub name-found : {x : ℕ} {p : Part} → i < n → Field 4 (source_entry b i) 0 x → x ≡ number → p ≡ name_at b i → Some p ≡ named b number
+  unfolding holds
+  name-found h g e q =
+      let at = find_hit f h g e in
+      let l : ltb (index_of b number) (source_count b) ≡ true = rw (← at, ← f.all) (lt-ltb i n h) in
+      rw l (ap Some (rw at at q))
 
--- what is sought in a register that is accepted, and in one that is not
-module _ {b : List ℕ} {number n i : ℕ} (e : accepted b ≡ true) (f : n ≡ source_count b) (g : i ≡ index_of b number) where
-  pub sought_held : {p : Part} → i < n → p ≡ name_at b i → Seeks b number (record { accepted = true; held = true; name = p })
-  unfolding holds found
-  sought_held h q =
-      let l : ltb (index_of b number) (source_count b) ≡ true = rw (← g, ← f) (lt-ltb i n h) in
-      record { taken = sym e; holding = rw (e, l); place = rw (e, l) (rw g at q) }
-
-  pub sought_absent : n ≤ i → Seeks b number (record { accepted = true; held = false; name = nothing })
-  unfolding holds found
-  sought_absent h =
-      let l : ltb (index_of b number) (source_count b) ≡ false = rw (← g, ← f) (le-ltb i n h) in
-      record { taken = sym e; holding = rw (e, l); place = rw (e, l) }
-
-pub sought_refused : {number : ℕ} {ok : Bool} (b : List ℕ) → ok ≡ accepted b → ok ≡ false → Seeks b number (record { accepted = false; held = false; name = nothing })
-unfolding found
-sought_refused b e f = let r : accepted b ≡ false = sym e ∙ f in record { taken = sym r; holding = rw r; place = rw r }
+  pub name-absent : n ≤ i → None ≡ named b number
+  unfolding holds
+  name-absent h =
+      let l : ltb (index_of b number) (source_count b) ≡ false = rw (← find_all f h, ← f.all) (le-ltb i n h) in
+      rw l
 
 pub name-there : {start size : ℕ} (b : List ℕ) (i : ℕ) → start ≡ name_place b i → Field 2 (source_entry b i) 10 size
     → ◌≡◌ {A = Part} (record { offset = start; length = size }) (name_at b i)
