@@ -7,7 +7,7 @@ use native.Mathlib.Omega.{arith}
 use lib.Dec.{ltb}
 use lib.ListN.{length}
 use Rattle.basis.specs.declared.Refusal.{Refusal}
-use Rattle.basis.specs.Answers.{Verdict, Passes, Refuses, refuse_if, first_refusal, answered, Gives}
+use Rattle.basis.specs.Answers.{Verdict, Passes, refuse_if, first_refusal, answered, Gives}
 use Rattle.basis.specs.Bytes.{Written}
 use Rattle.basis.specs.Lists.{Each}
 use Rattle.basis.proofs.Lists.{sorted_by-each}

@@ -91,8 +91,13 @@ pub fn write_calculated(
     requires { Ready register.now keys.now figures.now × (first_refusal (calculation_tests register.now) ≡ Passes) }
     ensures { Gives (calculated register.now report.old) (answered result) report.new }
 {
-    let needed = length_of(source_count(register));
-    answer::test_room(report.len(), needed)?;
-    write_report(register, keys, figures, report);
-    Ok(needed as u64)
+    let n = source_count(register);
+    let needed = length_of(n);
+    match answer::test_room(report.len(), needed) {
+        Ok(()) => {
+            write_report(register, keys, figures, report);
+            Ok(needed as u64)
+        }
+        Err(refusal) => Err(refusal),
+    }
 }

@@ -20,7 +20,8 @@ pub fn numeral_in(word: &[u8]) -> Option<u32>
             return None;
         }
         n = n * 10 + u64::from(byte - b'0');
-        if LARGEST < n {
+        let above = LARGEST < n;
+        if above {
             return None;
         }
     }

@@ -61,6 +61,15 @@ guess_below k l = leb-true _ _ (everywhere_at (λ i x. leb (10 ^ guess (suc i)) 
 power_is : (k : ℕ) → k < 19 → get_or powers (suc k) 0 ≡ 10 ^ suc k
 power_is k l = eqb-true _ _ (everywhere_at (λ i x. eqb x (10 ^ suc i)) (drop 1 powers) 0 refl k l)
 
+-- a number that is none of those below a bound, as a match leaves it behind its last arm, is not below it
+abbrev pub NoneBelow : ℕ → ℕ → Type 0
+NoneBelow zero k = Unit {0}
+NoneBelow (suc bound) k = NoneBelow bound k × (k ≡ bound → ⊥)
+
+not-below : (bound k : ℕ) → NoneBelow bound k → bound ≤ k
+not-below zero k h = omega arith
+not-below (suc bound) k (h, f) = omega (arith, not-below bound k h, f)
+
 -- a number of so many bits has as many digits as are guessed, or one more
 at_least : (bits n : ℕ) → bits < 65 → 2 ^ bits ≤ 2 * n + 1 → guess bits ≤ length (decimal n)
 at_least zero n few below = omega arith

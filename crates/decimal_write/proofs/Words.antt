@@ -1,5 +1,5 @@
 -- Eight digits in a word: several numbers stand in it, and one product divides them all. Assumes nothing.
-use mathlib.Core.Path.{◌≡◌, ◌∙◌}
+use mathlib.Core.Path.{◌≡◌, ap, ◌∙◌}
 use mathlib.Core.List.{◌++◌}
 use Prim.Native.Nat.{ℕ, ◌+◌, ◌*◌, ◌-◌, ◌/◌, ◌%◌, ◌≤◌, ◌<◌}
 use native.Mathlib.Omega.{arith}
@@ -8,6 +8,19 @@ use mir.Val.{Fits}
 use borrow.Author.Rules.{rules}
 use Rattle.basis.specs.Bytes.{number_of}
 use Rattle.decimal_write.specs.Words.{quarters, Paired, first_digits, two_digits, eight_digits}
+
+-- what stands in the lowest bits, below multiples of what they count up to
+low_16 : (q k : ℕ) → q < 16 → (q + 16 * k) % 16 ≡ q
+low_16 q k l = omega arith
+
+-- the tens of the number in the lowest quarter, and of those above it
+ten_low : (c r : ℕ) → c < 100 → (c + 65536 * r) * 103 / 1024 % 16 ≡ c / 10
+ten_low c r l =
+    let e : (c + 65536 * r) * 103 / 1024 ≡ c / 10 + 16 * (412 * r) = omega arith in
+    ap (λ (n : ℕ). n % 16) e ∙ low_16 (c / 10) (412 * r) (omega arith)
+
+ten_high : (c r : ℕ) → c < 100 → (c + 65536 * r) * 103 / 1024 / 65536 ≡ r * 103 / 1024
+ten_high c r l = omega arith
 
 -- four numbers of two digits
 abbrev Pairs : ℕ → ℕ → ℕ → ℕ → Type 0

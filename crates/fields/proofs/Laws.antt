@@ -2,8 +2,8 @@
 use mathlib.Core.Bool.{Bool, true, false}
 use mathlib.Core.Path.{◌≡◌, refl, sym, ap, ◌∙◌}
 use mathlib.Core.List.{List, [], ◌∷◌, ◌++◌, append_assoc}
-use Prim.Native.Nat.{ℕ, ◌+◌, ◌≤◌, ◌<◌}
-use native.Mathlib.Nat.{add_assoc, add-zero}
+use Prim.Native.Nat.{ℕ, ◌+◌, ◌*◌, ◌^◌, ◌≤◌, ◌<◌}
+use native.Mathlib.Nat.{add_assoc, add-zero, mul-le-mul_left}
 use native.Mathlib.Numerals.{add-one}
 use native.Mathlib.Omega.{arith}
 use borrow.Author.Rules.{rules}
@@ -11,16 +11,25 @@ use borrow.Author.Tests.{eq-eqb, ne_eqb, eqb-true, eqb-false}
 use borrow.Rule.Slice.PartMut.{put_mid}
 use Rattle.std.specs.Cmp.Lexicographic.{pointwise}
 use lib.Dec.{eqb}
+use lib.Pow.{pow-add}
 use lib.ListN.{length, take, drop, get_or, set, length-append, length-set, drop_of_length-le}
 use lib.Seq.{drop-cons, drop-drop}
 use Rattle.basis.specs.Bytes.{splice, starts_with, Written}
 use Rattle.basis.proofs.Rows.{number_at-drop}
-use Rattle.basis.proofs.Bytes.{splice-none, splice-splice, length-written, written_one}
+use Rattle.basis.proofs.Bytes.{number_at-parts, splice-none, splice-splice, length-written, written_one}
 use Rattle.fields.specs.Fields.{Field}
 
 -- a field behind a place is one of what stands from there on
 pub field_behind : {k n : ℕ} {bs : List ℕ} (p at : ℕ) → Field k bs (p + at) n → Field k (drop p bs) at n
 field_behind {k} {bs = bs} p at f = record { is = f.is ∙ sym (number_at-drop k bs p at); small = f.small }
+
+-- fields behind one another are one
+pub field_both : (j k : ℕ) {m n at : ℕ} {bs : List ℕ} → Field j bs at m → Field k bs (at + j) n → Field (j + k) bs at (m + 256 ^ j * n)
+field_both j k {m} {n} {at} {bs} f g =
+    record {
+      is = rw (f.is, g.is) (sym (number_at-parts j k bs at));
+      small = rw (pow-add 256 j k) (omega (arith, f.small, mul-le-mul_left (256 ^ j) g.small));
+    }
 
 -- ys is being written over bs₀ at a place: bs is what stands so far, and the rest, written at p, makes the whole
 pub record Writing (bs₀ : List ℕ) (at : ℕ) (ys bs : List ℕ) (p : ℕ) (rest : List ℕ) : Type 0 where

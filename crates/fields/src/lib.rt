@@ -32,12 +32,15 @@ pub fn put_zeros(buf: &mut [u8], at: usize, k: usize)
     buf[at..at + k].fill(0);
 }
 
-// Bytes, as a tag, over what stands at a place.
+// Bytes, as a tag, over what stands at a place. It is a loop, since the library's copy of slices that the compiler does not know apart is a
+// `memmove`, a name that the archive for C does not want from outside.
 pub fn put_bytes(buf: &mut [u8], at: usize, bytes: &[u8])
     requires { at + length bytes.now ≤ length buf.old }
     ensures { Written buf.old at bytes.now buf.new }
 {
-    buf[at..at + bytes.len()].copy_from_slice(bytes);
+    for (i, byte) in bytes.iter().enumerate() {
+        buf[at + i] = *byte;
+    }
 }
 
 // Whether bytes begin with a tag.

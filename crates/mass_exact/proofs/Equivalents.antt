@@ -1,14 +1,14 @@
 -- The equivalent gas by gas, and its limit exactly. Assumes nothing.
 use mathlib.Core.Bool.{Bool, true, false, cond}
 use mathlib.Core.List.{List, [], ◌∷◌}
-use mathlib.Core.Logic.{◌⊎◌, ⊎_elim}
+use mathlib.Core.Logic.{◌↔◌, ◌⊎◌, ⊎_elim}
 use mathlib.Core.Path.{◌≡◌, refl, sym, ap, ◌∙◌}
 use Rattle.std.specs.Prelude.{Some, None}
 use Rattle.std.specs.Bool.{then_some}
 use Prim.Native.Nat.{ℕ, ◌+◌, ◌*◌, ◌≤◌, ◌<◌}
 use native.Mathlib.Nat.{le_trans, mul-le-mul_left, mul-le-mul_right}
 use native.Mathlib.Omega.{arith}
-use borrow.Author.Tests.{leb-true, leb-false, lt-leb}
+use borrow.Author.Tests.{leb-true, leb-false, le-leb, lt-leb}
 use Rattle.std.proofs.lemmas.Option.{cond_some, none-some}
 use lib.Dec.{leb}
 use lib.ListN.{length, get_or, drop}
@@ -20,6 +20,10 @@ use Rattle.basis.specs.Lists.{Each}
 use Rattle.meaning.specs.Masses.{warming, gas_count, weighed, equivalent, limit}
 use Rattle.mass_exact.specs.Equivalents.{within_limit}
 
+pub within-limit : (ms : List ℕ) → equivalent ms ≤ limit → within_limit ms ≡ Some (equivalent ms)
+unfolding within_limit
+within-limit ms h = rw (le-leb (equivalent ms) limit h)
+
 pub above-limit : (ms : List ℕ) → limit < equivalent ms → within_limit ms ≡ None
 unfolding within_limit
 above-limit ms h = rw (lt-leb (equivalent ms) limit h)
@@ -29,6 +33,10 @@ pub some-within : (ms : List ℕ) {e : ℕ} → within_limit ms ≡ Some e → (
 unfolding within_limit
 some-within ms h = let s = cond_some (leb (equivalent ms) limit) _ _ h in (rw s.1 at (leb-true (equivalent ms) limit s.0), sym s.1)
 
+-- `Some` exactly there
+pub within-exactly : (ms : List ℕ) (e : ℕ) → within_limit ms ≡ Some e ↔ ((equivalent ms ≤ limit) × (e ≡ equivalent ms))
+within-exactly ms e = (λ h. let s = some-within ms h in (omega (arith, s.0, s.1), s.1), λ h. within-limit ms h.0 ∙ ap Some (sym h.1))
+
 -- `None` only where it is above the limit
 pub none-above : (ms : List ℕ) → within_limit ms ≡ None → limit < equivalent ms
 unfolding within_limit
@@ -37,6 +45,10 @@ none-above ms = by (leb (equivalent ms) limit) refl
     by : (b : Bool) → leb (equivalent ms) limit ≡ b → cond b (Some (equivalent ms)) None ≡ None → limit < equivalent ms
     by true t p = absurd (none-some _ (sym p))
     by false t p = leb-false (equivalent ms) limit t
+
+-- `None` exactly there
+pub above-exactly : (ms : List ℕ) → within_limit ms ≡ None ↔ limit < equivalent ms
+above-exactly ms = (none-above ms, above-limit ms)
 
 -- no gas weighs more than N2O, and none less than CO2
 abbrev heaviest : ℕ

@@ -2,7 +2,7 @@
 #![tactic(auto)]
 
 ghost use Rattle.std.specs.Prelude.{◌≡◌, false, ◌+◌, ◌*◌, ◌≤◌, ◌<◌, ltb, get_or};
-ghost use Rattle.meaning.specs.Masses.{gas_count, most_factors, most_factor, rounded};
+ghost use Rattle.meaning.specs.Masses.{warming, gas_count, most_factors, most_factor, rounded};
 ghost use Rattle.mass_exact.specs.Amounts.{word, gram, value, scale, Ranged, Room, Added, Subtracted};
 ghost use Rattle.mass_exact.specs.Equivalents.{within_limit};
 
@@ -118,6 +118,13 @@ pub fn round(a: Amount) -> u64
     a.high / FIVES * 4194304 + (a.high % FIVES * WORD + a.low + HALF) / GRAM
 }
 
+fn warming_of(gas: usize) -> u64
+    requires { gas < gas_count }
+    ensures { (result ≡ get_or warming gas 0) × (0 < result) }
+{
+    WARMING[gas]
+}
+
 // Gas by gas: a mass is multiplied only where it is itself within the limit, so that three products are within 64 bits. None is above the limit. One
 // limit for all gases is one number in a register.
 pub fn equivalent(masses: [u64; GASES]) -> Option<u64>
@@ -129,7 +136,7 @@ pub fn equivalent(masses: [u64; GASES]) -> Option<u64>
         if above {
             return None;
         }
-        sum += WARMING[gas] * *mass;
+        sum += warming_of(gas) * *mass;
     }
     (sum <= LIMIT).then_some(sum)
 }

@@ -86,6 +86,8 @@ pub fn judge_source(
     requires { LinesStand register.now method parameter base first end }
     ensures { Comes register.now method parameter first end result }
 {
-    let sums = mass_sums::read_lines(register, method, parameter, base, first, end)?;
-    Ok(judge_sums(sums))
+    match mass_sums::read_lines(register, method, parameter, base, first, end) {
+        Ok(sums) => Ok(judge_sums(sums)),
+        Err(bad) => Err(bad.refusal),
+    }
 }

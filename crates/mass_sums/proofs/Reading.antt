@@ -111,10 +111,10 @@ room-left r = record { gases = r.gases; added = λ gas g. room_less (r.added gas
 
 -- a line that is bad ends it, and so does the end
 reads-bad : {b : List ℕ} {m p first end at : ℕ} {s : Sums} → Summed b m p first end s at → at < end → read_at b m p at ≡ None
-    → verdict_from b m p first (end - first) ≡ Refuses 5 at
+    → (verdict_from b m p first (end - first) ≡ Refuses 5 at) × SumsOf (read_from b m p first (at - first)) s × Roomy 0 s
 reads-bad {b} {m} {p} {end = end} {at = at} h less e =
     let n : end - at ≡ suc (end - (at + 1)) = omega arith in
-    sym (sym (answer-bad b m p at (end - (at + 1)) e) ∙ rw n at h.left)
+    (sym (sym (answer-bad b m p at (end - (at + 1)) e) ∙ rw n at h.left), h.held, room-left h.room)
 
 pub reads_all : {b : List ℕ} {m p first end at : ℕ} {s : Sums} → Summed b m p first end s at → end ≤ at
     → (verdict_from b m p first (end - first) ≡ Passes) × SumsOf (read_from b m p first (end - first)) s × Roomy 0 s
@@ -132,7 +132,7 @@ read_is {b} {m} {p} at h r e = sym (e ∙ ap (decoded m p) (r ∙ ap (λ (x : �
 -- the turns of the loop: a bad line ends it, a good one is counted
 pub reads-stop : {b : List ℕ} {m p base first end at : ℕ} {s : Sums} {raw : RawLine} {d : Decoded} → LinesStand b m p base first end → Summed b m p first end s at → at < end
     → raw ≡ line_of (drop (base + line_length * at) b) → (d ≡ decoded m p raw) × DecodedFits d → d ≡ None
-    → verdict_from b m p first (end - first) ≡ Refuses 5 at
+    → (verdict_from b m p first (end - first) ≡ Refuses 5 at) × SumsOf (read_from b m p first (at - first)) s × Roomy 0 s
 reads-stop {at = at} h s less r e z = reads-bad s less (read_is at h r e.0 ∙ z)
 
 pub summed_turn : {b : List ℕ} {m p base first end at : ℕ} {s r : Sums} {raw : RawLine} {d : Decoded} {l : Line} → LinesStand b m p base first end → Summed b m p first end s at → at < end

@@ -1,12 +1,12 @@
 -- The lines of a source, read one behind another and summed up to the first that is bad. Assumes nothing.
 use Rattle.std.specs.Prelude.{Result, Err, Ok, true, List, map, ◌≡◌, ℕ, ◌+◌, ◌*◌, ◌-◌, ◌≤◌, ◌<◌, length, get_or}
-use Rattle.basis.specs.declared.Refusal.{Refusal}
 use Rattle.basis.specs.Answers.{Verdict, Passes, first_refusal}
 use Rattle.basis.specs.Lists.{count_up}
 use Rattle.meaning.specs.Methods.{Decoded, listed, decoded, refusal_of}
 use Rattle.meaning.specs.Masses.{gas_count, carbon_dioxide, added, taken}
 use Rattle.meaning.specs.Register.{source_count, most_lines, lines_at, line_length, line_at}
 use Rattle.mass_exact.specs.Amounts.{value, scale, nothing}
+use Rattle.mass_sums.specs.declared.BadLine.{BadLine}
 use Rattle.mass_sums.specs.declared.Sums.{Sums}
 use Rattle.mass_sums.specs.Sums.{Roomy}
 
@@ -34,7 +34,8 @@ pub record SumsOf (ls : List Decoded) (s : Sums) : Type 0 where
   pub added : (gas : ℕ) → gas < gas_count → value (get_or s.added gas nothing) ≡ added gas ls * scale gas
   pub taken : value s.taken ≡ taken carbon_dioxide ls * scale carbon_dioxide
 
--- the lines are summed where each is good, and the sums have room to be rounded; else they are answered by the first that is bad
-abbrev pub Reads : List ℕ → ℕ → ℕ → ℕ → ℕ → Result Sums Refusal → Type 0
+-- the lines are summed where each is good; else they are answered by the first that is bad, and those before it are summed. The sums have room to be rounded
+abbrev pub Reads : List ℕ → ℕ → ℕ → ℕ → ℕ → Result Sums BadLine → Type 0
 Reads b m p first end (Ok s) = (verdict_from b m p first (end - first) ≡ Passes) × SumsOf (read_from b m p first (end - first)) s × Roomy 0 s
-Reads b m p first end (Err refusal) = verdict_from b m p first (end - first) ≡ Err refusal
+Reads b m p first end (Err bad) =
+    (verdict_from b m p first (end - first) ≡ Err bad.refusal) × SumsOf (read_from b m p first (bad.refusal.place - first)) bad.before × Roomy 0 bad.before

@@ -20,6 +20,13 @@ pub struct Sums {
     pub taken: Amount,
 }
 
+// The refusal of a line, and what the lines before it come to.
+#[derive(Clone, Copy)]
+pub struct BadLine {
+    pub refusal: Refusal,
+    pub before: Sums,
+}
+
 const NOTHING: Amount = Amount { high: 0, low: 0 };
 
 // A line of 20 bytes at a place: "kind (1), unit (1), code (2), A (4), B (4), quantity Q (8)"
@@ -77,7 +84,7 @@ pub fn read_lines(
     base: usize,
     first: usize,
     end: usize,
-) -> Result<Sums, Refusal>
+) -> Result<Sums, BadLine>
     requires { LinesStand register.now method parameter base first end }
     ensures { Reads register.now method parameter first end result }
 {
@@ -88,9 +95,12 @@ pub fn read_lines(
     for at in first..end {
         let raw = line_at(register, base + LINE_LENGTH * at);
         let Some(line) = line_kind::decode(method, parameter, raw) else {
-            return Err(Refusal {
-                number: 5,
-                place: at as u64,
+            return Err(BadLine {
+                refusal: Refusal {
+                    number: 5,
+                    place: at as u64,
+                },
+                before: sums,
             });
         };
         sums = with_line(sums, line);

@@ -1,6 +1,6 @@
 -- The names: one that is found stands within its register, and which of two registers alone holds a number. Assumes nothing.
 use Rattle.std.specs.Prelude.{Option, Some, None}
-use Rattle.std.specs.Option.{option_flatten, unwrap_or}
+use Rattle.std.specs.Option.{is_some, option_flatten, unwrap_or}
 use mathlib.Core.Bool.{Bool, true, false, cond, not, ◌&&◌}
 use mathlib.Core.List.{List}
 use mathlib.Core.Path.{◌≡◌, refl, sym, ◌∙◌}
@@ -101,7 +101,28 @@ pub told-of-two : (plant contractor : List ℕ) (number : ℕ) {s t : Option (Op
     → r ≡ found_of_two plant contractor number
 told-of-two plant contractor number e f g = g ∙ rw (e, f) (sym (found-in plant contractor number))
 
-pub none-second : (s : Option (Option Part)) → in_register 1 nothing ≡ name_in_either s None
-none-second None = refl
-none-second (Some None) = refl
-none-second (Some (Some p)) = refl
+-- where one is refused there is no name
+pub one-refused : (s t : Option (Option Part)) {a b : Bool} → a ≡ is_some s → b ≡ is_some t → a && b ≡ false → in_register 1 nothing ≡ name_in_either s t
+one-refused None None e f h = refl
+one-refused None (Some k) e f h = refl
+one-refused (Some None) None e f h = refl
+one-refused (Some (Some p)) None e f h = refl
+one-refused (Some j) (Some k) e f h = absurd (clash refl (rw (e, f) at h))
+
+-- and where both are accepted, that of the one that holds the number alone
+abbrev pub name_alone : Option Part → Option Part → Found
+name_alone (Some p) None = in_register 1 p
+name_alone None (Some p) = in_register 2 p
+name_alone j k = in_register 1 nothing
+
+pub both-accepted : (s t : Option (Option Part)) {a b : Bool} {j k : Option Part} → a ≡ is_some s → b ≡ is_some t → a && b ≡ true → j ≡ option_flatten s → k ≡ option_flatten t
+    → name_alone j k ≡ name_in_either s t
+both-accepted None t {a} {b} e f h i l = absurd (clash (and-true a b h).0 e)
+both-accepted (Some j) None {a} {b} e f h i l = absurd (clash (and-true a b h).1 f)
+both-accepted (Some j) (Some k) e f h i l = rw (i, l) (by j k)
+  where
+    by : (j k : Option Part) → name_alone j k ≡ name_in_either (Some j) (Some k)
+    by None None = refl
+    by None (Some q) = refl
+    by (Some p) None = refl
+    by (Some p) (Some q) = refl

@@ -32,10 +32,15 @@ pub fn name_place(register: &[u8], number: u32) -> Part
 pub fn name_place_of_two(plant: &[u8], contractor: &[u8], number: u32) -> Found
     ensures { result ≡ found_of_two plant.now contractor.now number }
 {
-    let (Some(here), Some(there)) = (look_up(plant, number), look_up(contractor, number)) else {
+    let here = look_up(plant, number);
+    let there = look_up(contractor, number);
+    let both = here.is_some() & there.is_some();
+    if !both {
         return in_register(1, NOWHERE);
-    };
-    match (here, there) {
+    }
+    let one = here.flatten();
+    let other = there.flatten();
+    match (one, other) {
         (Some(name), None) => in_register(1, name),
         (None, Some(name)) => in_register(2, name),
         _ => in_register(1, NOWHERE),

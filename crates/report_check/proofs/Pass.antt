@@ -6,18 +6,17 @@ use Prim.Native.Nat.{ℕ, zero, suc, ◌+◌, ◌*◌, ◌-◌, ◌≤◌, ◌<�
 use native.Mathlib.Nat.{add-zero, zero-add, sub-zero}
 use native.Mathlib.Numerals.{add-one}
 use native.Mathlib.Omega.{arith}
+use borrow.Author.Rules.{rules}
 use lib.Dec.{eqb}
 use lib.ListN.{length, get_or}
 use Rattle.basis.specs.Lists.{sum, count_up, any}
-use Rattle.basis.proofs.Counting.{counted_all}
 use Rattle.basis.proofs.Rows.{number_at-drop}
-use Rattle.std.specs.Cmp.Lexicographic.{pointwise}
 use Rattle.meaning.specs.Masses.{limit}
 use Rattle.meaning.specs.Register.{most_sources}
-use Rattle.meaning.specs.Report.{Entry, figure_count, totals, entries_at, entry_length, report_length, entry_count, total_at, entry_at, entry_in, entries_of, number_before, wrong_entry, wrong_total}
+use Rattle.meaning.specs.Report.{Entry, figure_count, totals, entries_at, entry_length, report_length, entry_count, entry_at, entry_in, entries_of, number_before, wrong_entry, wrong_total}
 use Rattle.meaning.proofs.Reports.{RightEntry, right-entry, length-totals, total-is, totals-by, total_more}
 use Rattle.fields.specs.Fields.{Field}
-use Rattle.report_read.specs.Figures.{figure_at, figures_at, added_at, Addable}
+use Rattle.report_read.specs.Figures.{figure_at, added_at, Addable}
 use Rattle.report_read.proofs.Entries.{figure-stands, figure-small}
 
 -- no index below i has the test, and the later ones decide
@@ -43,24 +42,29 @@ module _ {test : ℕ → Bool} {n i : ℕ} (s : Searched test n i) where
   unfolding any count_up
   searched_all l = let z : n - i ≡ 0 = omega arith in sym (rw z at s.rest)
 
--- numbers by index are the same as others exactly where none of them differs
-same_each : (f g : ℕ → ℕ) (n i : ℕ) → pointwise eqb (map f (count_up i n)) (map g (count_up i n)) ≡ not (any (λ k. not (eqb (f k) (g k))) (count_up i n))
-unfolding any count_up
-same_each f g zero i = refl
-same_each f g (suc n) i = by (eqb (f i) (g i)) _ (same_each f g n (i + 1))
-  where
-    by : (same : Bool) {x : Bool} (y : Bool) → x ≡ not y → same && x ≡ not (not same || y)
-    by true y e = e
-    by false y e = refl
+-- the totals before k are the sums
+pub record Compared (b : List ℕ) (k : ℕ) : Type 0 where
+  pub searched : Searched (wrong_total b) figure_count k
 
--- the totals that are stated are the sums
-pub totals_compared : (b : List ℕ) {ts stated : List ℕ} {r : Bool} → stated ≡ figures_at figure_count b 24 → ts ≡ totals (entries_of b) → r ≡ pointwise eqb stated ts
-    → r ≡ not (any (wrong_total b) (count_up 0 figure_count))
-unfolding figures_at wrong_total
-totals_compared b s t e =
-    let sums = totals (entries_of b) in
-    let u : map (λ k. get_or sums k 0) (count_up 0 figure_count) ≡ sums = rw (length-totals (entries_of b)) at (counted_all (λ k. get_or sums k 0) 0 sums (λ i l. refl)) in
-    e ∙ rw (s, t, ← u) (same_each (total_at b) (λ k. get_or sums k 0) figure_count 0)
+pub compared_none : (b : List ℕ) → Compared b 0
+compared_none b = record { searched = searched_none (wrong_total b) figure_count }
+
+module _ {b : List ℕ} {k : ℕ} (c : Compared b k) where
+  module _ {ts : List ℕ} {stated : ℕ} (l : k < figure_count) (h : (entries_at ≤ length b) × (ts ≡ totals (entries_of b))) (f : Field 8 b (24 + 8 * k) stated) where
+    wrong-is : wrong_total b k ≡ not (eqb stated (get_or ts k 0))
+    unfolding wrong_total
+    wrong-is = rw (h.1, f.is)
+
+    pub compared_more : not (eqb stated (get_or ts k 0)) ≡ false → Compared b (k + 1)
+    compared_more e = record { searched = searched_more c.searched l (wrong-is ∙ e) }
+
+    pub compared_not : not (eqb stated (get_or ts k 0)) ≡ true → false ≡ not (any (wrong_total b) (count_up 0 figure_count))
+    compared_not e = rw (searched_hit c.searched l (wrong-is ∙ e))
+
+  pub compared_all : figure_count ≤ k → true ≡ not (any (wrong_total b) (count_up 0 figure_count))
+  compared_all l = rw (searched_all c.searched l)
+
+pub ruleset comparing = (rules, compared_more, compared_not, compared_all)
 
 -- the entries before i
 unfoldable pub entries_to : List ℕ → ℕ → List Entry

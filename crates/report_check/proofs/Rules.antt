@@ -1,7 +1,7 @@
 -- The rules of an entry: what is wrong with its front and with its equivalent, by what was read from it. Assumes nothing.
 use mathlib.Core.Bool.{Bool, true, false, not, ◌||◌}
 use mathlib.Core.List.{List}
-use mathlib.Core.Path.{◌≡◌, refl, sym, ◌∙◌}
+use mathlib.Core.Path.{◌≡◌, sym, ◌∙◌}
 use Prim.Native.Nat.{ℕ, zero, suc, ◌+◌, ◌*◌, ◌≤◌, ◌<◌}
 use native.Mathlib.Nat.{add_assoc, add-zero}
 use native.Mathlib.Omega.{arith}
@@ -18,8 +18,7 @@ use Rattle.fields.specs.Fields.{Field}
 use Rattle.fields.proofs.Laws.{field_behind}
 use Rattle.mass_exact.specs.Equivalents.{within_limit}
 use Rattle.mass_exact.proofs.Equivalents.{some-within, none-above}
-use Rattle.std.specs.Option.{option_eq}
-use Rattle.std.specs.Prelude.{Option, Some, None, nat_eq}
+use Rattle.std.specs.Prelude.{Option, Some, None}
 use Rattle.report_read.specs.Figures.{figures_at}
 use Rattle.report_read.proofs.Entries.{figures-drop}
 use Rattle.report_check.specs.Rules.{wrong_equivalent}
@@ -30,25 +29,19 @@ masses_read b at e = e ∙ figures-drop gas_count b at 8
 
 module _ (b : List ℕ) (at : ℕ) {ms : List ℕ} {w : Option ℕ} (m : ms ≡ (entry_in (drop at b)).masses) (v : w ≡ within_limit ms) where
   -- above the limit it is wrong, whatever is stated
-  wrong-above : w ≡ None → true ≡ wrong_equivalent (drop at b)
+  pub wrong-above : w ≡ None → true ≡ wrong_equivalent (drop at b)
   unfolding wrong_equivalent
   wrong-above e =
       let l : limit < equivalent ms = none-above ms (sym v ∙ e) in
       rw (← m, lt-ltb limit (equivalent ms) l) (sym (or_true (not (eqb (figure_in (drop at b) gas_count) (equivalent ms)))))
 
   -- within it, the stated one decides
-  wrong-stated : {right stated : ℕ} → w ≡ Some right → Field 8 b (at + 8 + 8 * gas_count) stated → not (eqb stated right) ≡ wrong_equivalent (drop at b)
+  pub wrong-stated : {right stated : ℕ} → w ≡ Some right → Field 8 b (at + 8 + 8 * gas_count) stated → not (eqb stated right) ≡ wrong_equivalent (drop at b)
   unfolding wrong_equivalent
   wrong-stated {right} {stated} e f =
       let h = some-within ms (sym v ∙ e) in
       let s : stated ≡ figure_in (drop at b) gas_count = (field_behind at (8 + 8 * gas_count) (rw add_assoc at f)).is in
       rw (← m, ← s, ← h.1, le-ltb limit right h.0) (sym (or_none (not (eqb stated right))))
-
--- stated against what is computed
-pub wrong-differs : (b : List ℕ) (at : ℕ) {ms : List ℕ} (w : Option ℕ) {stated : ℕ} → ms ≡ (entry_in (drop at b)).masses → w ≡ within_limit ms
-    → Field 8 b (at + 8 + 8 * gas_count) stated → not (option_eq nat_eq (Some stated) w) ≡ wrong_equivalent (drop at b)
-wrong-differs b at None m v f = wrong-above b at m v refl
-wrong-differs b at (Some right) m v f = wrong-stated b at m v refl f
 
 -- a method and what stands behind it are a method only where that is zeros
 method_alone : (m z : ℕ) → not (within 1 6 (m + 256 * z)) ≡ not (within 1 6 m) || not (eqb z 0)

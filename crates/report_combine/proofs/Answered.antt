@@ -21,6 +21,7 @@ use Rattle.report_check.proofs.Form.{readable}
 use Rattle.report_merge.specs.Merge.{shared_number, Combinable}
 use Rattle.report_merge.proofs.Shared.{shared-at}
 use Rattle.std.specs.Prelude.{Result, Ok, Err, IsErrAnd, Option, Some, None}
+use Rattle.std.specs.Option.{is_some, unwrap_or}
 use Rattle.std.proofs.lemmas.Option.{cond_some, none-some}
 use Rattle.report_merge.proofs.Merged.{massed_both, length_both}
 use Rattle.report_combine.specs.Tests.{form_tests, entry_tests}
@@ -50,6 +51,12 @@ module _ (one other : List ℕ) {shared : Option ℕ} (f : shared ≡ shared_num
 
   pub number-apart : shared ≡ None → Passes ≡ shared_test one other
   number-apart l = sym (none_shared one other (sym f ∙ l))
+
+-- and as it is tested: whether there is one, and which
+pub shared_told : (one other : List ℕ) {stands : Bool} {place : ℕ} (shared : Option ℕ) → shared ≡ shared_number one other → stands ≡ is_some shared
+    → place ≡ unwrap_or shared 0 → refuse_if stands 11 place ≡ shared_test one other
+shared_told one other None f s p = rw s (number-apart one other f refl)
+shared_told one other (Some n) f s p = rw (s, p) (number_shared one other f refl)
 
 pub both_readable : (one other : List ℕ) {v : Verdict} → v ≡ first_refusal (form_tests one other) → v ≡ Passes → Readable one × Readable other
 unfolding form_tests

@@ -22,17 +22,17 @@ fn test_forms(first: &[u8], second: &[u8]) -> Result<(), Refusal>
     test_form(second, 2)
 }
 
-// "10, 11, 12", of two well-formed reports.
+// "10, 11, 12", of two well-formed reports. Each test is one call, and the calls are in the order of the tests.
 fn test_entries(first: &[u8], second: &[u8]) -> Result<(), Refusal>
     requires { Readable first.now × Readable second.now }
     ensures { result ≡ first_refusal (entry_tests first.now second.now) }
 {
     refuse_if(year_of(first) != year_of(second), 10, 0)?;
     let shared = shared_number(first, second);
+    let stands = shared.is_some();
+    let place = shared.unwrap_or(0);
     let n = entry_count(first) + entry_count(second);
-    if let Some(place) = shared {
-        return Err(Refusal { number: 11, place });
-    }
+    refuse_if(stands, 11, place)?;
     refuse_if(MOST_ENTRIES < n, 12, n as u64)
 }
 

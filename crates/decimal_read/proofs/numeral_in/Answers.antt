@@ -13,8 +13,8 @@ loop-byte-init c = grind (arith, reading_none)
 pub returns-then-byte-lt48 : goal.returns-then-byte-lt48
 returns-then-byte-lt48 c = ⊎_elim (λ h. search reading_low) (λ h. reading_high c.loop-byte.invariant c.loop-byte-test.true refl (omega arith)) c.then-byte-lt48.either
 
-pub returns-then-n-gt-LARGEST : goal.returns-then-n-gt-LARGEST
-returns-then-n-gt-LARGEST c = search reading_past
+pub returns-then-above : goal.returns-then-above
+returns-then-above c = search reading_past
 
 pub loop-byte-preserved : goal.loop-byte-preserved
 loop-byte-preserved c = search reading_more

@@ -1,6 +1,11 @@
-use native.Mathlib.Omega.{arith}
-use Rattle.fields.proofs.Laws.{written_part}
+use Rattle.fields.proofs.Laws.{copying}
 use Rattle.fields.proofs.put_bytes.Goals as goal
 
+pub loop-i-init : goal.loop-i-init
+loop-i-init c = search copying
+
+pub loop-i-preserved : goal.loop-i-preserved
+loop-i-preserved c = search copying
+
 pub returns : goal.returns
-returns c = search (arith, written_part)
+returns c = search copying

@@ -1,4 +1,4 @@
-use Rattle.std.proofs.Common.{ap, sym, ◌∙◌, ℕ, ◌≡◌, ◌+◌, ◌-◌, replicate, length, take, drop}
+use Rattle.std.proofs.Common.{ap, ◌∙◌, ℕ, ◌≡◌, ◌+◌, ◌-◌, replicate, length, take, drop}
 use native.Mathlib.Omega.{arith}
 use lib.ListN.{length-drop}
 use lib.Seq.{length-take-le}

@@ -1,4 +1,4 @@
-use Rattle.std.proofs.Common.{◌∙◌, inl, length, ap, arith, rules}
+use Rattle.std.proofs.Common.{◌∙◌, inl, length, ap, rules}
 use lib.ListN.{drop_of_length-le}
 use Rattle.meaning.specs.Masses.{warming}
 use Rattle.mass_exact.proofs.Equivalents.{weighing_first, weighing_fits, weighing_next, weighing_none, weighing_end, weighed-now}
@@ -13,11 +13,13 @@ returns-then-above c =
 
 pub overflow_add-sum : goal.overflow_add-sum
 overflow_add-sum c =
-    weighing_fits c.loop-gas.invariant (weighed-now c.args.masses c.loop-gas.gas (search rules), weighed-now warming c.loop-gas.gas (search rules)) c.if-above.false
+    rw c.warming_of.ensures.0
+    (weighing_fits c.loop-gas.invariant (weighed-now c.args.masses c.loop-gas.gas (search rules), weighed-now warming c.loop-gas.gas (search rules)) c.if-above.false)
 
 pub loop-gas-preserved : goal.loop-gas-preserved
 loop-gas-preserved c =
-    weighing_next c.loop-gas.invariant (weighed-now c.args.masses c.loop-gas.gas (search rules), weighed-now warming c.loop-gas.gas (search rules)) c.if-above.false
+    rw c.warming_of.ensures.0
+    (weighing_next c.loop-gas.invariant (weighed-now c.args.masses c.loop-gas.gas (search rules), weighed-now warming c.loop-gas.gas (search rules)) c.if-above.false)
 
 pub returns : goal.returns
 returns c = c.then_some.ensures ∙ weighing_end c.loop-gas.invariant (inl (ap length (drop_of_length-le c.args.masses {i = c.loop-gas.gas} (search rules))))

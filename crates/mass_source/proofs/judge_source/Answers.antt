@@ -1,5 +1,5 @@
 use Rattle.mass_source.proofs.Coming.{comes_all}
 use Rattle.mass_source.proofs.judge_source.Goals as goal
 
-pub returns : goal.returns
-returns c = comes_all c.in_ok-sums.ensures c.judge_sums.ensures
+pub returns-in-Ok : goal.returns-in-Ok
+returns-in-Ok c = comes_all c.in-Ok.ensures c.judge_sums.ensures

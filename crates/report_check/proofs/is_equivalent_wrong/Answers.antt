@@ -1,6 +1,9 @@
-use Rattle.std.proofs.Common.{◌∙◌}
-use Rattle.report_check.proofs.Rules.{wrong-differs}
+use Rattle.std.proofs.Common.{rules}
+use Rattle.report_check.proofs.Rules.{wrong-above, wrong-stated}
 use Rattle.report_check.proofs.is_equivalent_wrong.Goals as goal
 
-pub returns : goal.returns
-returns c = c.ne.ensures ∙ wrong-differs c.args.report.now c.args.at c.equivalent.result c.masses_at-masses.ensures c.equivalent.ensures c.number_at-stated.ensures
+pub returns-in-Some : goal.returns-in-Some
+returns-in-Some c = search (rules, wrong-stated)
+
+pub returns-in-None : goal.returns-in-None
+returns-in-None c = search (rules, wrong-above)
